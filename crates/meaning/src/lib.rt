@@ -1,0 +1,104 @@
+// The words in which the library speaks: its limits, what a line of a text says, and its answers. What each of them means stands in specs/.
+ghost use mathlib.Core.Path.{_≡_};
+ghost use Rattle.meaning.specs.Limits.{base as baseLimits};
+
+// The limits of the paper, in one record: text in bytes, weight and coordinate as the largest sizes permitted.
+pub struct Limits {
+    pub text: usize,
+    pub nodes: usize,
+    pub arcs: usize,
+    pub sites: usize,
+    pub weight: usize,
+    pub coordinate: usize,
+    pub k: usize,
+}
+
+// The one place where the code has these numbers.
+pub fn base() -> Limits
+    ensures { λ r. ⌜ r ≡ baseLimits ⌝ }
+{
+    Limits {
+        text: 65536,
+        nodes: 1024,
+        arcs: 4096,
+        sites: 128,
+        weight: 1000000,
+        coordinate: 200000000,
+        k: 32,
+    }
+}
+
+// Which of the three texts.
+pub enum Kind {
+    Graph,
+    Coordinates,
+    Sites,
+}
+
+// A field read as a number, and as a coordinate.
+pub enum Number {
+    Value(usize),
+    NoNumber,
+}
+
+pub enum Signed {
+    At(i32),
+    NoCoordinate,
+}
+
+// The counts of a problem line: the nodes, and the data lines to come.
+pub struct Counts {
+    pub nodes: usize,
+    pub rows: usize,
+}
+
+// What a data line says: a U V W, v ID X Y, s ID.
+pub enum Entry {
+    Arc {
+        tail: usize,
+        head: usize,
+        weight: usize,
+    },
+    Point {
+        node: usize,
+        x: i32,
+        y: i32,
+    },
+    Site {
+        node: usize,
+    },
+}
+
+// What a line says.
+pub enum Line {
+    Nothing,
+    Problem(Counts),
+    Data(Entry),
+    Malformed,
+}
+
+// What a text is held to: the limits, which text it is, the N handed in (a graph text is handed none) and the room for its data.
+pub struct Rules {
+    pub limits: Limits,
+    pub kind: Kind,
+    pub given: usize,
+    pub room: usize,
+}
+
+// The answer of a reader: the refusal's number and place, or the counts of the problem line.
+pub enum Read {
+    Refused { number: usize, place: usize },
+    Accepted { nodes: usize, rows: usize },
+}
+
+// The verdict of a search's checks.
+pub enum Verdict {
+    Fine,
+    Faulty { number: usize, place: usize },
+}
+
+// The answer of a search: the refusal's number and place, or how many sites are listed and how many nodes were taken.
+pub enum Answer {
+    Denied { number: usize, place: usize },
+    Listed { sites: usize, taken: usize },
+}
