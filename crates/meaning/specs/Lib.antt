@@ -2,3 +2,12 @@ pub mod Limits
 pub mod Text
 pub mod Grammar
 pub mod Files
+pub mod Scan
+pub mod Straight
+pub mod Region
+pub mod Checks
+pub mod Walk
+pub mod Taking
+pub mod Route
+pub mod Listing
+pub mod Search

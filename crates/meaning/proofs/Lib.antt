@@ -1,0 +1,13 @@
+pub mod Bools
+pub mod Scans
+pub mod Roots
+pub mod Exits
+pub mod Relaxing
+pub mod States
+pub mod Orders
+pub mod Estimates
+pub mod Listed
+pub mod Trace
+pub mod Routes
+pub mod Bounds
+pub mod Parallel

@@ -1,0 +1,71 @@
+-- What a search is lent: the tables of a region and the rooms for its answer; and the region that the tables describe.
+use mathlib.Core.Path.{_≡_}
+use mathlib.Core.Bool.{Bool}
+use mathlib.Core.List.{List}
+use Prim.Native.Nat.{ℕ, _-_, _≤_, _<_}
+use lib.Dec.{eqb}
+use lib.IntN.{ℤ, pos}
+use lib.ListN.{getD}
+use Rattle.meaning.specs.Scan.{any}
+
+-- the lent tables, with the counts N, M and S
+pub record Tables : Type 0 where
+  pub tails : List ℕ
+  pub heads : List ℕ
+  pub weights : List ℕ
+  pub xs : List ℤ
+  pub ys : List ℤ
+  pub sites : List ℕ
+  pub n : ℕ
+  pub m : ℕ
+  pub s : ℕ
+
+-- "work"; "the lists of site numbers, lengths and route ends"; "routes"
+pub record Rooms : Type 0 where
+  pub work : List ℕ
+  pub sites : List ℕ
+  pub lengths : List ℕ
+  pub ends : List ℕ
+  pub routes : List ℕ
+
+-- A region: n nodes, m arcs, s sites. Nodes are 0 to n-1 in all that follows: a node's number in a table is one more.
+pub record Region : Type 0 where
+  pub n : ℕ
+  pub m : ℕ
+  pub s : ℕ
+  pub tail : ℕ → ℕ
+  pub head : ℕ → ℕ
+  pub weight : ℕ → ℕ
+  pub site : ℕ → ℕ
+
+-- the region of the tables; entries past the counts are not looked at
+abbrev pub regionOf : Tables → Region
+regionOf t = record {
+  n = t .n;
+  m = t .m;
+  s = t .s;
+  tail = λ i. getD (t .tails) i 0 - 1;
+  head = λ i. getD (t .heads) i 0 - 1;
+  weight = λ i. getD (t .weights) i 0;
+  site = λ j. getD (t .sites) j 0 - 1;
+}
+
+-- a node's coordinates
+abbrev pub xAt : Tables → ℕ → ℤ
+xAt t v = getD (t .xs) v (pos 0)
+
+abbrev pub yAt : Tables → ℕ → ℤ
+yAt t v = getD (t .ys) v (pos 0)
+
+-- "Arcs are one-way": an arc leads from u to v and weighs w
+abbrev pub ArcOf : Region → ℕ → ℕ → ℕ → Type 0
+ArcOf R u v w = (i : ℕ) × (i < R .m) × (R .tail i ≡ u) × (R .head i ≡ v) × (R .weight i ≡ w)
+
+-- "the least weights among the parallel arcs"
+pub record LeastArc (R : Region) (u v w : ℕ) : Type 0 where
+  pub arc : ArcOf R u v w
+  pub least : (x : ℕ) → ArcOf R u v x → w ≤ x
+
+-- "Sites stand on nodes"
+unfoldable pub isSite : Region → ℕ → Bool
+isSite R v = any (λ j. eqb (R .site j) v) (R .s)
