@@ -210,7 +210,7 @@ module _ (R : Region) (ok : Valid R) (pos : (i : ℕ) → i < R .m → 1 ≤ R .
         near a c (inr z) = let y = z .0 in omega arith
 
         go : T (memb (lst .node) p) ⊎ (t ≡ lst .node) → lst .len ≤ e
-        go (inl z) = let r = asc-last (Earlier R q) p t (rw list at (listed .asc)) (lst .node) z in near (r .0) (shortest-unique (lst .short) (r .1)) (r .2 e (st .walk))
+        go (inl z) = let r = asc-last (Earlier (ArcOf R) q) p t (rw list at (listed .asc)) (lst .node) z in near (r .0) (shortest-unique (lst .short) (r .1)) (r .2 e (st .walk))
         go (inr c) = let y = shortest-unique (lst .short) (rw c at st) in omega arith
 
     pub within-last : (e : ℕ) → Shortest (ArcOf R) q t e → (v c : ℕ) → T (taken (final R (toSites R d) k q) v) → Shortest (ArcOf R) q v c → c + toSites R d (isSite R) v ≤ e

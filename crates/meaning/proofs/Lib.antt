@@ -11,3 +11,8 @@ pub mod Trace
 pub mod Routes
 pub mod Bounds
 pub mod Parallel
+pub mod Listings
+pub mod Alike
+pub mod Passed
+pub mod Outcomes
+pub mod Cases

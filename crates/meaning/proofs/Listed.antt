@@ -11,6 +11,7 @@ use lib.Dec.{T, T-not, not-T, eqb, leb, ltb, eqb→eq, eqb-refl, ltb→lt, lt→
 use lib.ListN.{length, getD, length-append}
 use Rattle.meaning.specs.Region.{Region, ArcOf, isSite}
 use Rattle.meaning.specs.Scan.{any, first}
+use Rattle.meaning.specs.Listing.{Before}
 use Rattle.meaning.specs.Taking.{key, State, memb, taken, lenAt, keyIn, isOpen, aimed, sitesOf, mark, take1, takeAt, start, choose, full, next, after, final}
 use Rattle.meaning.specs.Walk.{Walk, Shortest}
 use Rattle.meaning.proofs.Bools.{T-true, T-false, decT, and-both, and-make, nand-cases, or-cases, or-left, or-right, nor-both}
@@ -21,21 +22,21 @@ use Rattle.meaning.proofs.Scans.{any-of, any-is, First, IsFirst, first-
 use Rattle.meaning.proofs.States.{Has, Inv, inv-start, inv-take, picked, taken-cons, taken-new, taken-old, open-of, has-below}
 
 -- a has a walk that is shorter than any to t, or as short with a's number the lower
-abbrev pub Earlier : Region → ℕ → ℕ → ℕ → Type 0
-Earlier R q a t = (d : ℕ) × Shortest (ArcOf R) q a d × ((e : ℕ) → Walk (ArcOf R) q t e → (d < e) ⊎ ((d ≡ e) × (a < t)))
+abbrev pub Earlier : (ℕ → ℕ → ℕ → Type 0) → ℕ → ℕ → ℕ → Type 0
+Earlier Arc q a t = (d : ℕ) × Shortest Arc q a d × ((e : ℕ) → Walk Arc q t e → Before a d t e)
 
 -- a site that some walk reaches
-abbrev pub Reached : Region → ℕ → ℕ → Type 0
-Reached R q v = T (isSite R v) × ((e : ℕ) × Walk (ArcOf R) q v e)
+abbrev pub Reached : (ℕ → ℕ → ℕ → Type 0) → (ℕ → Bool) → ℕ → ℕ → Type 0
+Reached Arc site q v = T (site v) × ((e : ℕ) × Walk Arc q v e)
 
--- 01's list: its sites, in order
+-- the nodes of the list, in order
 abbrev pub TheList : Region → ℕ → ℕ → List ℕ → Type 0
-TheList R q k L = FirstK (Reached R q) (Earlier R q) k L
+TheList R q k L = FirstK (Reached (ArcOf R) (isSite R) q) (Earlier (ArcOf R) q) k L
 
-pub earlier-asym : (R : Region) (q x y : ℕ) → Earlier R q x y → Earlier R q y x → ⊥
-earlier-asym R q x y a b = go (a .2 (b .0) (b .1 .walk)) (b .2 (a .0) (a .1 .walk))
+pub earlier-asym : (Arc : ℕ → ℕ → ℕ → Type 0) (q x y : ℕ) → Earlier Arc q x y → Earlier Arc q y x → ⊥
+earlier-asym Arc q x y a b = go (a .2 (b .0) (b .1 .walk)) (b .2 (a .0) (a .1 .walk))
   where
-    go : (a .0 < b .0) ⊎ ((a .0 ≡ b .0) × (x < y)) → (b .0 < a .0) ⊎ ((b .0 ≡ a .0) × (y < x)) → ⊥
+    go : Before x (a .0) y (b .0) → Before y (b .0) x (a .0) → ⊥
     go (inl s) (inl t) = omega arith
     go (inl s) (inr t) = omega arith
     go (inr s) (inl t) = omega arith
@@ -109,8 +110,8 @@ module _ (R : Region) where
 
 pub record Listed (R : Region) (q k : ℕ) (s : State) : Type 0 where
   pub inv : Inv R q s
-  pub later : (a : ℕ) → T (taken s a) → T (isSite R a) → (t : ℕ) → T (isSite R t) → T (not (taken s t)) → Earlier R q a t
-  pub asc : Asc (Earlier R q) (sitesOf R (s .order))
+  pub later : (a : ℕ) → T (taken s a) → T (isSite R a) → (t : ℕ) → T (isSite R t) → T (not (taken s t)) → Earlier (ArcOf R) q a t
+  pub asc : Asc (Earlier (ArcOf R) q) (sitesOf R (s .order))
   pub size : length (sitesOf R (s .order)) ≤ k
   pub closed : (t : ℕ) → T (taken s t) → T (isSite R t) → (x a r : ℕ) → Walk (ArcOf R) q x a → Walk (ArcOf R) x t r → Shortest (ArcOf R) q t (a + r) → T (taken s x)
   pub tally : count (taken s) (R .n) ≡ length (s .order)
@@ -147,7 +148,7 @@ module _ (R : Region) (ok : Valid R) (pos : (i : ℕ) → i < R .m → 1 ≤ R .
     pub sh : Shortest (ArcOf R) q v (lenAt (s .best) v)
     sh = picked-shortest (L .inv .known) (fits (aimed R s) (aimed-site R s)) 1 long P
 
-    new-first : T (isSite R v) → (t : ℕ) → T (isSite R t) → T (not (taken (mark s v) t)) → Earlier R q v t
+    new-first : T (isSite R v) → (t : ℕ) → T (isSite R t) → T (not (taken (mark s v) t)) → Earlier (ArcOf R) q v t
     new-first z t st o = (lenAt (s .best) v, sh, λ e w. go e (picked-first (L .inv .known) (fits (aimed R s) (aimed-site R s)) 1 long (isSite R) (aims s) P z t e st old (omega arith) w))
       where
         old : T (not (taken s t))
@@ -160,23 +161,23 @@ module _ (R : Region) (ok : Valid R) (pos : (i : ℕ) → i < R .m → 1 ≤ R .
         go e (inl y) = inl y
         go e (inr y) = let l = y .1 in inr (y .0, omega (arith, other))
 
-    later-new : (a : ℕ) → T (taken (mark s v) a) → T (isSite R a) → (t : ℕ) → T (isSite R t) → T (not (taken (mark s v) t)) → Earlier R q a t
+    later-new : (a : ℕ) → T (taken (mark s v) a) → T (isSite R a) → (t : ℕ) → T (isSite R t) → T (not (taken (mark s v) t)) → Earlier (ArcOf R) q a t
     later-new a ta sa t st o = go (taken-cons s v a ta)
       where
-        go : (v ≡ a) ⊎ T (taken s a) → Earlier R q a t
+        go : (v ≡ a) ⊎ T (taken s a) → Earlier (ArcOf R) q a t
         go (inl e) = rw (← e) (new-first (rw e sa) t st o)
         go (inr z) = L .later a z sa t st (not-T (taken s t) (λ y. T-not (taken (mark s v) t) o (taken-old s v t y)))
 
-    was : (y : ℕ) → T (memb y (s .order)) × T (isSite R y) → T (isSite R v) → Earlier R q y v
+    was : (y : ℕ) → T (memb y (s .order)) × T (isSite R y) → T (isSite R v) → Earlier (ArcOf R) q y v
     unfolding taken
     was y p z = L .later y (p .0) (p .1) v z (P .untaken)
 
-    asc-new : Asc (Earlier R q) (sitesOf R (v ∷ s .order))
+    asc-new : Asc (Earlier (ArcOf R) q) (sitesOf R (v ∷ s .order))
     unfolding sitesOf
     asc-new = go (isSite R v) (λ z. z)
       where
-        go : (b : Bool) → (T b → T (isSite R v)) → Asc (Earlier R q) (cond b (sitesOf R (s .order) ++ (v ∷ [])) (sitesOf R (s .order)))
-        go true z = asc-snoc (Earlier R q) (sitesOf R (s .order)) v (L .asc) (λ y t. was y (sites-in R (s .order) y t) (z tt))
+        go : (b : Bool) → (T b → T (isSite R v)) → Asc (Earlier (ArcOf R) q) (cond b (sitesOf R (s .order) ++ (v ∷ [])) (sitesOf R (s .order)))
+        go true z = asc-snoc (Earlier (ArcOf R) q) (sitesOf R (s .order)) v (L .asc) (λ y t. was y (sites-in R (s .order) y t) (z tt))
         go false z = L .asc
 
     size-new : length (sitesOf R (s .order)) < k → length (sitesOf R (v ∷ s .order)) ≤ k
@@ -286,7 +287,7 @@ module _ (R : Region) (ok : Valid R) (pos : (i : ℕ) → i < R .m → 1 ≤ R .
 
   -- ---- the list
 
-  rest-of : (s : State) → Listed R q k s → Stopped s → (v : ℕ) → Reached R q v → T (not (taken s v)) → length (sitesOf R (s .order)) ≡ k
+  rest-of : (s : State) → Listed R q k s → Stopped s → (v : ℕ) → Reached (ArcOf R) (isSite R) q v → T (not (taken s v)) → length (sitesOf R (s .order)) ≡ k
   unfolding full choose
   rest-of s L st v c o = go st
     where
