@@ -77,6 +77,12 @@ module _ (R : Region) (ok : Valid R) (pos : (i : ℕ) → i < R .m → 1 ≤ R .
   came-after zero = begun
   came-after (suc i) = came-next (after R est k q i) (listed-after R ok pos est fits q k below i) (came-after i)
 
+  -- no node is taken twice
+  pub came-once : {s : State} → Came s → Asc _≢_ (s .order)
+  unfolding start take1 taken
+  came-once begun = tt
+  came-once (took s v L c nf F) = (λ y t e. T-not (taken s v) (picked R est q s (L .inv) v F .untaken) (rw e t), came-once c)
+
   -- a search that is full at the start takes nothing
   pub came-empty : {s : State} → Came s → T (full R k (start R q)) → s .order ≡ []
   unfolding start

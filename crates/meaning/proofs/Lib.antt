@@ -16,3 +16,4 @@ pub mod Alike
 pub mod Passed
 pub mod Outcomes
 pub mod Cases
+pub mod Independent

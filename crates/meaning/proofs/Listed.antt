@@ -242,7 +242,7 @@ module _ (R : Region) (ok : Valid R) (pos : (i : ℕ) → i < R .m → 1 ≤ R .
   abbrev pub Stopped : State → Type 0
   Stopped s = T (full R k s) ⊎ (choose R est s ≡ none)
 
-  stays : (s : State) → Stopped s → next R est k s ≡ s
+  pub stays : (s : State) → Stopped s → next R est k s ≡ s
   unfolding next takeAt
   stays s (inl t) = rw (T-true (full R k s) t, takeAt)
   stays s (inr e) = go (full R k s)

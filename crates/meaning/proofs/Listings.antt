@@ -1,6 +1,6 @@
 -- The list: no second one fits, a longer one begins with it, and the search's own list is one.
 use mathlib.Core.Path.{_≡_, refl, sym, ap, subst, _∙_}
-use mathlib.Core.Logic.{_⊎_, inl, inr, _≢_}
+use mathlib.Core.Logic.{_⊎_, inl, inr, _≢_, _↔_}
 use mathlib.Core.Bool.{Bool, true, false, not}
 use mathlib.Core.List.{List, [], _∷_, map}
 use Prim.Native.Nat.{ℕ, zero, suc, _-_, _≤_, _<_}
@@ -13,6 +13,7 @@ use Rattle.meaning.specs.Walk.{Walk, Shortest}
 use Rattle.meaning.specs.Taking.{State, memb, taken, lenAt, sitesOf, final}
 use Rattle.meaning.specs.Route.{RouteTo}
 use Rattle.meaning.specs.Listing.{Stop, Before, All, Ordered, Right, Listing}
+use Rattle.meaning.proofs.Bools.{decT}
 use Rattle.meaning.proofs.Exits.{shortest-unique}
 use Rattle.meaning.proofs.Relaxing.{Valid, Estimate}
 use Rattle.meaning.proofs.Orders.{FirstK, Asc, unique, memb-head, memb-tail, memb-cases, memb-not}
@@ -112,6 +113,27 @@ module _ (Arc : ℕ → ℕ → ℕ → Type 0) (site : ℕ → Bool) (q : ℕ) 
   pub listing-unique : {k : ℕ} (L M : List Stop) → Listing Arc site q k L → Listing Arc site q k M → L ≡ M
   listing-unique L M x y =
       same-stops L M (x .right) (y .right) (unique (Earlier Arc q) (λ v w c d. earlier-asym Arc q v w) (nodes L) (nodes M) (listing-first x) (listing-first y))
+
+  -- "a site is missing from the list exactly when no walk reaches it or k listed sites come before it": whatever walk reaches it, k lines come before
+  pub missing-exactly : {k : ℕ} {list : List Stop} → Listing Arc site q k list → (v : ℕ) → T (site v)
+      → All (λ l. l .node ≢ v) list ↔ ((e : ℕ) → Walk Arc q v e → (length list ≡ k) × All (λ l. Before (l .node) (l .len) v e) list)
+  missing-exactly {k} {list} L v t = (λ u e w. L .missing v e t w u, λ h. go h (decT (memb v (nodes list))))
+    where
+      Beaten : ℕ → Type 0
+      Beaten x = (d : ℕ) × Shortest Arc q x d × ((e : ℕ) → Walk Arc q v e → Before x d v e)
+      beaten : Beaten v → ⊥
+      beaten b = on (b .2 (b .0) (b .1 .walk))
+        where
+          on : Before v (b .0) v (b .0) → ⊥
+          on (inl z) = omega arith
+          on (inr z) = let y = z .1 in omega arith
+      go : ((e : ℕ) → Walk Arc q v e → (length list ≡ k) × All (λ l. Before (l .node) (l .len) v e) list) → T (memb v (nodes list)) ⊎ T (not (memb v (nodes list))) → All (λ l. l .node ≢ v) list
+      go h (inr z) = unlisted list v z
+      go h (inl z) =
+          absurd (beaten (at-node Beaten list
+            (all-map (λ l. Right Arc site q l × ((e : ℕ) → Walk Arc q v e → Before (l .node) (l .len) v e)) (λ l. Beaten (l .node)) (λ l y. (l .len, y .0 .short, y .1)) list
+              (all-zip (Right Arc site q) (λ l. (e : ℕ) → Walk Arc q v e → Before (l .node) (l .len) v e) list (L .right)
+                (all-swap (Walk Arc q v) (λ e l. Before (l .node) (l .len) v e) list (λ e w. h e w .1)))) v z))
 
 -- ---- the search's own list is one
 
