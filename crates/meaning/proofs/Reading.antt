@@ -247,7 +247,7 @@ given-more v (d ∷ es) e = on (eqb (nodeOf d) v) (given-more v es e)
     on true h = refl
     on false h = h
 
-neither : (a b : Bool) → a || b ≡ false → (a ≡ false) × (b ≡ false)
+pub neither : (a b : Bool) → a || b ≡ false → (a ≡ false) × (b ≡ false)
 neither true b h = let z : _≡_ {A = ℕ} 0 1 = cc in absurd (omega arith)
 neither false b h = (refl, h)
 
