@@ -1,5 +1,5 @@
 -- "coordinates by node number": where a coordinate text is accepted, each of its N nodes has the values of its one line.
-use Prim.Native.Nat.{ℕ, zero, suc, _-_, min, _≤_, _<_}
+use Prim.Native.Nat.{ℕ, suc, _-_, min, _≤_}
 use mathlib.Core.Path.{_≡_, refl, sym, _∙_, ap}
 use mathlib.Core.List.{List, [], _∷_, List·Memᴰ, List·Memᴰ·head, List·Memᴰ·tail, List·Memᴰ·not-nil, List·Memᴰ·cases-cons}
 use mathlib.Core.Logic.{_⊎_, inl, inr}
@@ -11,10 +11,9 @@ use lib.IntN.{ℤ}
 use native.Mathlib.Omega.{arith}
 use borrow.Author.Tests.{eqb-true, eqb-false, eq-eqb, ne-eqb}
 use Rattle.meaning.specs.Text.{lines}
-use Rattle.meaning.specs.Files.{entryFault, nodeOf, isGiven, Reading, read, reading, putAll, byNode, xOf, yOf, coordinateRules, coordinateReading, CoordinatesRead}
+use Rattle.meaning.specs.Files.{nodeOf, isGiven, read, putAll, byNode, xOf, yOf, coordinateRules, coordinateReading, CoordinatesRead}
 use Rattle.meaning.specs.declared.Limits.{Limits}
 use Rattle.meaning.specs.declared.Kind.the-variants.{Coordinates}
-use Rattle.meaning.specs.declared.Rules.{Rules}
 use Rattle.meaning.specs.declared.Counts.{Counts}
 use Rattle.meaning.specs.declared.Entry.{Entry}
 use Rattle.meaning.specs.declared.Entry.the-variants.{Arc, Point, Site}
@@ -27,7 +26,7 @@ use Rattle.meaning.proofs.Counting.{count, count-none, count-more, coun
 
 pub put-size : {A : Type 0} (value : Entry → A) (es : List Entry) (xs : List A) → length (putAll value es xs) ≡ length xs
 put-size value [] xs = refl
-put-size value (e ∷ es) xs = put-size value es (set xs (nodeOf e - 1) (value e)) ∙ length-set xs (nodeOf e - 1) (value e)
+put-size value (e ∷ es) xs = rw (put-size value es, length-set)
 
 module _ {A : Type 0} (value : Entry → A) (L : Limits) (n : ℕ) where
   -- a node that no entry is of keeps its value

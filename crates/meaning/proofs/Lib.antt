@@ -1,6 +1,7 @@
-pub mod Reading
+pub mod Order
 pub mod Texts
+pub mod Reading
 pub mod Unique
-pub mod Counting
 pub mod Tables
+pub mod Counting
 pub mod Coordinates

@@ -1,6 +1,6 @@
 -- What is known of a text that a reading accepts.
 use Prim.Native.Nat.{ℕ, suc, _≤_}
-use mathlib.Core.Path.{_≡_, refl, sym, _∙_, subst}
+use mathlib.Core.Path.{_≡_, refl, ap, sym, _∙_, subst}
 use mathlib.Core.List.{List, [], _∷_, _++_, map, append-nil, append-assoc}
 use mathlib.Core.Bool.{Bool, true, false, cond, _&&_, _||_}
 use lib.ListN.{length, length-map}
@@ -12,7 +12,7 @@ use native.Mathlib.Nat.{zero-add}
 use borrow.Author.Tests.{leb-true, eqb-true, eqb-false, ne-eqb}
 use Rattle.meaning.specs.Text.{lines, trim, fields, first, others, none, same, number, signed}
 use Rattle.meaning.specs.Grammar.{wordC, wordP, wordSp, wordCo, wordSs, wordA, wordV, wordS, lastNumber, lastSigned, auxCount, graphCounts, pointCounts, siteCounts, problemOf, arcData, pointData, siteData, dataOf, lineOf}
-use Rattle.meaning.specs.Files.{within, isWeight, isCoordinate, mostRows, agrees, countsFault, entryFault, nodeOf, isGiven, repeated, Progress, awaiting, begun, step, Reading, refused, read, finish, onNext, readFrom, handedIn, reading, inFront}
+use Rattle.meaning.specs.Files.{within, isWeight, isCoordinate, mostRows, agrees, countsFault, entryFault, nodeOf, isGiven, repeated, Progress, awaiting, begun, Next, step, Reading, refused, read, finish, onNext, readFrom, handedIn, reading, inFront}
 use Rattle.meaning.specs.declared.Limits.{Limits}
 use Rattle.meaning.specs.declared.Kind.{Kind}
 use Rattle.meaning.specs.declared.Kind.the-variants.{Graph, Coordinates, Sites}
@@ -26,6 +26,7 @@ use Rattle.meaning.specs.declared.Entry.{Entry}
 use Rattle.meaning.specs.declared.Entry.the-variants.{Arc, Point, Site}
 use Rattle.meaning.specs.declared.Line.{Line}
 use Rattle.meaning.specs.declared.Line.the-variants.{Nothing, Problem, Data, Malformed}
+use Rattle.meaning.proofs.Order.{line-order}
 
 -- ---- the words of the theorems
 
@@ -298,7 +299,7 @@ module _ (R : Rules) (d : Counts) (ds rest : List Entry) (c : Counts) (es : List
     (ih : (js : List Entry) → Held R d js → f (begun d js) ≡ read c es → Grown R d js rest c es) (held : Held R d ds) where
   grown-data : (e : Entry) → IsOf (R .kind) e → (t u v : Bool) → leb (d .rows) (length ds) ≡ t → eqb (entryFault (R .limits) (d .nodes) e) 0 ≡ u → repeated e ds ≡ v
       → onNext (step R (begun d ds) (Data e)) k f ≡ read c es → Grown R d ds (e ∷ rest) c es
-  grown-data e o true u v x y z h = absurd (never (rw x at h))
+  grown-data e o true u v x y z h = absurd (never (sym (ap (λ (n : Next). onNext n k f) (line-order R .full d ds e (leb-true (d .rows) (length ds) x))) ∙ h))
   grown-data e o false false v x y z h = absurd (never (rw (x, y) at h))
   grown-data e o false true true x y z h = absurd (never (rw (x, y, z) at h))
   grown-data e o false true false x y z h =

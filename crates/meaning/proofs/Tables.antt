@@ -1,20 +1,18 @@
 -- "After an accepted reading the first entries hold the data .. and later entries are unchanged", for arcs and sites.
 use Prim.Native.Nat.{ℕ, _+_, _-_, min, _≤_, _<_}
-use mathlib.Core.Path.{_≡_, refl, sym, _∙_, ap, subst}
-use mathlib.Core.List.{List, [], _∷_, _++_, map}
+use mathlib.Core.Path.{_≡_, refl, _∙_, ap}
+use mathlib.Core.List.{List, map}
 use lib.ListN.{length, drop, getD, length-map, length-append, length-drop, List·getD-append, List·getD-map}
 use lib.Seq.{getD-append-add, getD-drop}
 use native.Mathlib.Omega.{arith}
 use Rattle.meaning.specs.Text.{lines}
 use Rattle.meaning.specs.Files.{Reading, refused, read, reading, answered, inFront, nodeOf, headOf, weightOf, graphRules, siteRules, graphReading, siteReading, GraphRead, SitesRead}
 use Rattle.meaning.specs.declared.Limits.{Limits}
-use Rattle.meaning.specs.declared.Kind.{Kind}
 use Rattle.meaning.specs.declared.Kind.the-variants.{Graph, Sites}
 use Rattle.meaning.specs.declared.Rules.{Rules}
 use Rattle.meaning.specs.declared.Counts.{Counts}
 use Rattle.meaning.specs.declared.Entry.{Entry}
-use Rattle.meaning.specs.declared.Read.{Read}
-use Rattle.meaning.specs.declared.Read.the-variants.{Refused, Accepted}
+use Rattle.meaning.specs.declared.Read.the-variants.{Accepted}
 use Rattle.meaning.proofs.Reading.{entriesOf, accepted}
 
 -- a table at exit: one value of each of the m entries in front, in order, and the rest as it was
