@@ -27,33 +27,38 @@ module _ {A B : ℕ → ℕ → ℕ → Type 0} {q : ℕ} (like : Alike A B q) w
 
   pub listing-alike : {site site′ : ℕ → Bool} → ((v : ℕ) → T (site v) ↔ T (site′ v)) → {k : ℕ} {list : List Stop} → Listing A site q k list → Listing B site′ q k list
   listing-alike {site} {site′} same {k} {list} L = record {
-      right = all-map (Right A site q) (Right B site′ q)
+    right = all-map (Right A site q) (Right B site′ q)
         (λ l r. record { is-site = same (l .node) .0 (r .is-site); short = like .short (l .node) (l .len) (r .short); route = route-alike (r .route) }) list (L .right);
-      ordered = L .ordered;
-      most = L .most;
-      missing = λ v e t w u. L .missing v e (same v .1 t) (like .walk v e w) u }
+    ordered = L .ordered;
+    most = L .most;
+    missing = λ v e t w u. L .missing v e (same v .1 t) (like .walk v e w) u;
+  }
 
 -- the least among parallel arcs
 pub least-alike : (R : Region) (q : ℕ) → Alike (ArcOf R) (LeastArc R) q
 least-alike R q = record {
-    short = λ v d s. shortest-same R q v d .0 s;
-    walk = λ v d w. any-walk R w;
-    gives = λ u v. (to u v, of u v) }
+  short = λ v d s. shortest-same R q v d .0 s;
+  walk = λ v d w. any-walk R w;
+  gives = λ u v. (to u v, of u v);
+}
   where
     to : (u v : ℕ) → Gives (ArcOf R) q u v → Gives (LeastArc R) q u v
     to u v g = record {
-        len = g .len;
-        weight = g .weight;
-        short = shortest-same R q u (g .len) .0 (g .short);
-        arc = record { arc = g .arc; least = λ x a. let l = g .whole .least (g .len + x) (step (g .short .walk) a) in omega arith };
-        whole = shortest-same R q v (g .len + g .weight) .0 (g .whole) }
+      len = g .len;
+      weight = g .weight;
+      short = shortest-same R q u (g .len) .0 (g .short);
+      arc = record { arc = g .arc; least = λ x a. let l = g .whole .least (g .len + x) (step (g .short .walk) a) in omega arith };
+      whole = shortest-same R q v (g .len + g .weight) .0 (g .whole);
+    }
+
     of : (u v : ℕ) → Gives (LeastArc R) q u v → Gives (ArcOf R) q u v
     of u v g = record {
-        len = g .len;
-        weight = g .weight;
-        short = shortest-same R q u (g .len) .1 (g .short);
-        arc = g .arc .arc;
-        whole = shortest-same R q v (g .len + g .weight) .1 (g .whole) }
+      len = g .len;
+      weight = g .weight;
+      short = shortest-same R q u (g .len) .1 (g .short);
+      arc = g .arc .arc;
+      whole = shortest-same R q v (g .len + g .weight) .1 (g .whole);
+    }
 
 -- the same arcs, however they are told
 module _ {A B : ℕ → ℕ → ℕ → Type 0} (same : (u v w : ℕ) → A u v w ↔ B u v w) where
@@ -73,13 +78,16 @@ module _ {A B : ℕ → ℕ → ℕ → Type 0} (same : (u v w : ℕ) → A u v 
 
   pub same-alike : (q : ℕ) → Alike A B q
   same-alike q = record {
-      short = λ v d s. short-same s;
-      walk = λ v d w. back w;
-      gives = λ u v.
-          (λ g. record { len = g .len; weight = g .weight; short = short-same (g .short); arc = same u v (g .weight) .0 (g .arc); whole = short-same (g .whole) },
-            λ g. record { len = g .len; weight = g .weight; short = short-back (g .short); arc = same u v (g .weight) .1 (g .arc); whole = short-back (g .whole) }) }
+    short = λ v d s. short-same s;
+    walk = λ v d w. back w;
+    gives = λ u v. (
+      λ g. record { len = g .len; weight = g .weight; short = short-same (g .short); arc = same u v (g .weight) .0 (g .arc); whole = short-same (g .whole) },
+      λ g. record { len = g .len; weight = g .weight; short = short-back (g .short); arc = same u v (g .weight) .1 (g .arc); whole = short-back (g .whole) },
+    );
+  }
 
 pub least-same : (R R′ : Region) → ((u v w : ℕ) → ArcOf R u v w ↔ ArcOf R′ u v w) → (u v w : ℕ) → LeastArc R u v w ↔ LeastArc R′ u v w
-least-same R R′ same u v w =
-    (λ a. record { arc = same u v w .0 (a .arc); least = λ x b. a .least x (same u v x .1 b) },
-      λ a. record { arc = same u v w .1 (a .arc); least = λ x b. a .least x (same u v x .0 b) })
+least-same R R′ same u v w = (
+  λ a. record { arc = same u v w .0 (a .arc); least = λ x b. a .least x (same u v x .1 b) },
+  λ a. record { arc = same u v w .1 (a .arc); least = λ x b. a .least x (same u v x .0 b) },
+)

@@ -12,6 +12,9 @@ pub T-false : (b : Bool) → T (not b) → b ≡ false
 T-false true t = absurd t
 T-false false t = refl
 
+pub true-T : (b : Bool) → b ≡ true → T b
+true-T b e = rw e tt
+
 pub decT : (b : Bool) → T b ⊎ T (not b)
 decT true = inl tt
 decT false = inr tt

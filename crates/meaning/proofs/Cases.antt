@@ -21,24 +21,30 @@ use Rattle.meaning.proofs.Outcomes.{answerOf, roomsAfter, searched-fits
 -- "Six nodes .. Eight arcs .. Sites in file order: 5, 3, 6."; the fourth arc's weight apart
 abbrev town : ℕ → Tables
 town fourth = record {
-    tails = 1 ∷ 2 ∷ 1 ∷ 4 ∷ 1 ∷ 3 ∷ 2 ∷ 5 ∷ [];
-    heads = 2 ∷ 3 ∷ 4 ∷ 3 ∷ 5 ∷ 5 ∷ 1 ∷ 6 ∷ [];
-    weights = 5 ∷ 5 ∷ 6 ∷ fourth ∷ 10 ∷ 9 ∷ 5 ∷ 9 ∷ [];
-    xs = pos 0 ∷ pos 3 ∷ pos 6 ∷ pos 0 ∷ pos 10 ∷ pos 3 ∷ [];
-    ys = pos 0 ∷ pos 4 ∷ pos 8 ∷ pos 5 ∷ pos 0 ∷ negsuc 3 ∷ [];
-    sites = 5 ∷ 3 ∷ 6 ∷ [];
-    n = 6; m = 8; s = 3 }
+  tails = 1 ∷ 2 ∷ 1 ∷ 4 ∷ 1 ∷ 3 ∷ 2 ∷ 5 ∷ [];
+  heads = 2 ∷ 3 ∷ 4 ∷ 3 ∷ 5 ∷ 5 ∷ 1 ∷ 6 ∷ [];
+  weights = 5 ∷ 5 ∷ 6 ∷ fourth ∷ 10 ∷ 9 ∷ 5 ∷ 9 ∷ [];
+  xs = pos 0 ∷ pos 3 ∷ pos 6 ∷ pos 0 ∷ pos 10 ∷ pos 3 ∷ [];
+  ys = pos 0 ∷ pos 4 ∷ pos 8 ∷ pos 5 ∷ pos 0 ∷ negsuc 3 ∷ [];
+  sites = 5 ∷ 3 ∷ 6 ∷ [];
+  n = 6;
+  m = 8;
+  s = 3;
+}
 
 -- "four nodes at (0,0), arcs 1 2 2; 1 3 1; 2 4 1; 3 4 2, site 4"
 abbrev diamond : Tables
 diamond = record {
-    tails = 1 ∷ 1 ∷ 2 ∷ 3 ∷ [];
-    heads = 2 ∷ 3 ∷ 4 ∷ 4 ∷ [];
-    weights = 2 ∷ 1 ∷ 1 ∷ 2 ∷ [];
-    xs = pos 0 ∷ pos 0 ∷ pos 0 ∷ pos 0 ∷ [];
-    ys = pos 0 ∷ pos 0 ∷ pos 0 ∷ pos 0 ∷ [];
-    sites = 4 ∷ [];
-    n = 4; m = 4; s = 1 }
+  tails = 1 ∷ 1 ∷ 2 ∷ 3 ∷ [];
+  heads = 2 ∷ 3 ∷ 4 ∷ 4 ∷ [];
+  weights = 2 ∷ 1 ∷ 1 ∷ 2 ∷ [];
+  xs = pos 0 ∷ pos 0 ∷ pos 0 ∷ pos 0 ∷ [];
+  ys = pos 0 ∷ pos 0 ∷ pos 0 ∷ pos 0 ∷ [];
+  sites = 4 ∷ [];
+  n = 4;
+  m = 4;
+  s = 1;
+}
 
 -- rooms just large enough, full of nines, so that what is written and what is kept both show
 abbrev nines : ℕ → ℕ → Rooms
@@ -122,7 +128,7 @@ computed = refl
 hold : (c : Case) → run c ≡ want c → Holds c
 hold c e =
     subst (λ (o : Outcome). Searched base (c .tables) (c .query) (c .k) (nines (c .tables .n) (c .k)) (o .rooms) (o .answer)) e
-      (searched-fits base (c .tables) (c .query) (c .k) (nines (c .tables .n) (c .k)))
+    (searched-fits base (c .tables) (c .query) (c .k) (nines (c .tables .n) (c .k)))
 
 hold-all : (cs : List Case) → map run cs ≡ map want cs → All Holds cs
 hold-all [] e = tt

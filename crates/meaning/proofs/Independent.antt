@@ -61,6 +61,7 @@ sites-stand t t′ s v z =
 pub reordered : (t t′ : Tables) → t .n ≡ t′ .n → Stands (t .m) (t′ .m) (arcAt t) (arcAt t′) → Stands (t′ .m) (t .m) (arcAt t′) (arcAt t)
     → Stands (t .s) (t′ .s) (siteAt t) (siteAt t′) → Stands (t′ .s) (t .s) (siteAt t′) (siteAt t) → SameRegion t t′
 reordered t t′ n a b c d = record {
-    nodes = n;
-    arcs = λ u v w. (arcs-stand t t′ a u v w, arcs-stand t′ t b u v w);
-    sites = λ v. (sites-stand t t′ c v, sites-stand t′ t d v) }
+  nodes = n;
+  arcs = λ u v w. (arcs-stand t t′ a u v w, arcs-stand t′ t b u v w);
+  sites = λ v. (sites-stand t t′ c v, sites-stand t′ t d v);
+}

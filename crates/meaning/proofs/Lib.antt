@@ -1,5 +1,12 @@
 pub mod Bools
+pub mod Counting
 pub mod Scans
+pub mod Refusals
+pub mod Reading
+pub mod Unique
+pub mod Tables
+pub mod Coordinates
+pub mod Texts
 pub mod Roots
 pub mod Exits
 pub mod Relaxing
@@ -15,5 +22,5 @@ pub mod Listings
 pub mod Alike
 pub mod Passed
 pub mod Outcomes
-pub mod Cases
 pub mod Independent
+pub mod Cases

@@ -14,11 +14,12 @@ use Rattle.meaning.specs.Scan.{any, first}
 use Rattle.meaning.specs.Listing.{Before}
 use Rattle.meaning.specs.Taking.{key, State, memb, taken, lenAt, keyIn, isOpen, aimed, sitesOf, mark, take1, takeAt, start, choose, full, next, after, final}
 use Rattle.meaning.specs.Walk.{Walk, Shortest}
-use Rattle.meaning.proofs.Bools.{T-true, T-false, decT, and-both, and-make, nand-cases, or-cases, or-left, or-right, nor-both}
+use Rattle.meaning.proofs.Bools.{T-true, T-false, true-T, decT, and-both, and-make, nand-cases, or-cases, or-left, or-right, nor-both}
+use Rattle.meaning.proofs.Counting.{count, count-more, count-full, count-none}
 use Rattle.meaning.proofs.Exits.{Known, Picked, Consistent, Exit, exit, picked-shortest, picked-first, before-taken, still, shortest-unique}
 use Rattle.meaning.proofs.Orders.{Asc, FirstK, memb-head, memb-tail, memb-cases, memb-not}
 use Rattle.meaning.proofs.Relaxing.{Valid, Estimate, aimed-site}
-use Rattle.meaning.proofs.Scans.{any-of, any-is, First, IsFirst, first-is, count, count-more, count-le, count-full, count-none}
+use Rattle.meaning.proofs.Scans.{any-of, any-is, First, IsFirst, first-is}
 use Rattle.meaning.proofs.States.{Has, Inv, inv-start, inv-take, picked, taken-cons, taken-new, taken-old, open-of, has-below}
 
 -- a has a walk that is shorter than any to t, or as short with a's number the lower
@@ -189,7 +190,7 @@ module _ (R : Region) (ok : Valid R) (pos : (i : ℕ) → i < R .m → 1 ≤ R .
         go false = omega arith
 
     tally-new : count (taken (mark s v)) (R .n) ≡ suc (length (s .order))
-    tally-new = count-more (taken s) (taken (mark s v)) v (R .n) (F .below) (P .untaken) (taken-new s v v refl) (λ x n. taken-else s v x (λ e. n (sym e))) ∙ ap suc (L .tally)
+    tally-new = count-more (taken s) (taken (mark s v)) v (R .n) (F .below) (T-false (taken s v) (P .untaken)) (T-true (taken (mark s v) v) (taken-new s v v refl)) (λ x n. taken-else s v x (λ e. n (sym e))) ∙ ap suc (L .tally)
 
     closed-new : (t : ℕ) → T (taken (mark s v) t) → T (isSite R t) → (x a r : ℕ) → Walk (ArcOf R) q x a → Walk (ArcOf R) x t r → Shortest (ArcOf R) q t (a + r) → T (taken (mark s v) x)
     closed-new t tt′ st x a r p w h = go (taken-cons s v t tt′)
@@ -275,7 +276,7 @@ module _ (R : Region) (ok : Valid R) (pos : (i : ℕ) → i < R .m → 1 ≤ R .
     where
       go : (o : Option ℕ) → IsFirst (isOpen s) (keyIn R est s) (R .n) o → o ≡ none
       go none f = refl
-      go (some v) f = absurd (T-not (taken s v) (and-both (ltb 0 (getD (s .best) v 0)) (not (taken s v)) (f .holds) .1) (count-full (taken s) (R .n) (L .tally ∙ e) v (f .below)))
+      go (some v) f = absurd (T-not (taken s v) (and-both (ltb 0 (getD (s .best) v 0)) (not (taken s v)) (f .holds) .1) (true-T (taken s v) (count-full (taken s) (R .n) (L .tally ∙ e) v (f .below))))
 
   pub final-stopped : q < R .n → Stopped (final R est k q)
   unfolding final

@@ -53,9 +53,10 @@ at-node P (l ∷ list) p v t = go (memb-cases (l .node) v (nodes list) t) (at-no
 
 unlisted : (list : List Stop) (v : ℕ) → T (not (memb v (nodes list))) → All (λ l. l .node ≢ v) list
 unlisted [] v t = tt
-unlisted (l ∷ list) v t =
-    (λ e. T-not (memb v (nodes (l ∷ list))) t (subst (λ (x : ℕ). T (memb v (x ∷ nodes list))) (sym e) (memb-head v (nodes list))),
-      unlisted list v (not-T (memb v (nodes list)) (λ z. T-not (memb v (nodes (l ∷ list))) t (memb-tail (l .node) v (nodes list) z))))
+unlisted (l ∷ list) v t = (
+  λ e. T-not (memb v (nodes (l ∷ list))) t (subst (λ (x : ℕ). T (memb v (x ∷ nodes list))) (sym e) (memb-head v (nodes list))),
+  unlisted list v (not-T (memb v (nodes list)) (λ z. T-not (memb v (nodes (l ∷ list))) t (memb-tail (l .node) v (nodes list) z))),
+)
 
 -- ---- no second list fits
 
@@ -71,26 +72,29 @@ later a d b e f (inr s) l = go (decLt e f)
 module _ (Arc : ℕ → ℕ → ℕ → Type 0) (site : ℕ → Bool) (q : ℕ) where
   ascending : (list : List Stop) → All (Right Arc site q) list → Ordered list → Asc (Earlier Arc q) (nodes list)
   ascending [] r o = tt
-  ascending (a ∷ list) r o =
-      (at-node (Earlier Arc q (a .node)) list
+  ascending (a ∷ list) r o = (
+    at-node (Earlier Arc q (a .node)) list
         (all-map (λ b. Before (a .node) (a .len) (b .node) (b .len) × Right Arc site q b) (λ b. Earlier Arc q (a .node) (b .node))
-          (λ b z. (a .len, r .0 .short, λ e w. later (a .node) (a .len) (b .node) (b .len) e (z .0) (z .1 .short .least e w))) list
-          (all-zip (λ b. Before (a .node) (a .len) (b .node) (b .len)) (Right Arc site q) list (o .0) (r .1))),
-        ascending list (r .1) (o .1))
+        (λ b z. (a .len, r .0 .short, λ e w. later (a .node) (a .len) (b .node) (b .len) e (z .0) (z .1 .short .least e w))) list
+        (all-zip (λ b. Before (a .node) (a .len) (b .node) (b .len)) (Right Arc site q) list (o .0) (r .1))),
+    ascending list (r .1) (o .1),
+  )
 
   -- its nodes are the first k of those reached
   pub listing-first : {k : ℕ} {list : List Stop} → Listing Arc site q k list → FirstK (Reached Arc site q) (Earlier Arc q) k (nodes list)
   listing-first {k} {list} L = record {
-      mem = at-node (Reached Arc site q) list (all-map (Right Arc site q) (λ l. Reached Arc site q (l .node)) (λ l r. (r .is-site, (l .len, r .short .walk))) list (L .right));
-      asc = ascending list (L .right) (L .ordered);
-      size = rw length-map (L .most);
-      rest = λ v c t.
-          let u = unlisted list v t in
-          (rw length-map (L .missing v (c .1 .0) (c .0) (c .1 .1) u .0),
-            at-node (λ x. Earlier Arc q x v) list
+    mem = at-node (Reached Arc site q) list (all-map (Right Arc site q) (λ l. Reached Arc site q (l .node)) (λ l r. (r .is-site, (l .len, r .short .walk))) list (L .right));
+    asc = ascending list (L .right) (L .ordered);
+    size = rw length-map (L .most);
+    rest = λ v c t.
+        let u = unlisted list v t in (
+          rw length-map (L .missing v (c .1 .0) (c .0) (c .1 .1) u .0),
+          at-node (λ x. Earlier Arc q x v) list
               (all-map (λ l. Right Arc site q l × ((e : ℕ) → Walk Arc q v e → Before (l .node) (l .len) v e)) (λ l. Earlier Arc q (l .node) v) (λ l z. (l .len, z .0 .short, z .1)) list
-                (all-zip (Right Arc site q) (λ l. (e : ℕ) → Walk Arc q v e → Before (l .node) (l .len) v e) list (L .right)
-                  (all-swap (Walk Arc q v) (λ e l. Before (l .node) (l .len) v e) list (λ e w. L .missing v e (c .0) w u .1))))) }
+              (all-zip (Right Arc site q) (λ l. (e : ℕ) → Walk Arc q v e → Before (l .node) (l .len) v e) list (L .right)
+              (all-swap (Walk Arc q v) (λ e l. Before (l .node) (l .len) v e) list (λ e w. L .missing v e (c .0) w u .1)))),
+        );
+  }
 
   right-unique : (a b : Stop) → Right Arc site q a → Right Arc site q b → a .node ≡ b .node → a ≡ b
   right-unique a b x y e =
@@ -121,19 +125,21 @@ module _ (Arc : ℕ → ℕ → ℕ → Type 0) (site : ℕ → Bool) (q : ℕ) 
     where
       Beaten : ℕ → Type 0
       Beaten x = (d : ℕ) × Shortest Arc q x d × ((e : ℕ) → Walk Arc q v e → Before x d v e)
+
       beaten : Beaten v → ⊥
       beaten b = on (b .2 (b .0) (b .1 .walk))
         where
           on : Before v (b .0) v (b .0) → ⊥
           on (inl z) = omega arith
           on (inr z) = let y = z .1 in omega arith
+
       go : ((e : ℕ) → Walk Arc q v e → (length list ≡ k) × All (λ l. Before (l .node) (l .len) v e) list) → T (memb v (nodes list)) ⊎ T (not (memb v (nodes list))) → All (λ l. l .node ≢ v) list
       go h (inr z) = unlisted list v z
       go h (inl z) =
           absurd (beaten (at-node Beaten list
-            (all-map (λ l. Right Arc site q l × ((e : ℕ) → Walk Arc q v e → Before (l .node) (l .len) v e)) (λ l. Beaten (l .node)) (λ l y. (l .len, y .0 .short, y .1)) list
-              (all-zip (Right Arc site q) (λ l. (e : ℕ) → Walk Arc q v e → Before (l .node) (l .len) v e) list (L .right)
-                (all-swap (Walk Arc q v) (λ e l. Before (l .node) (l .len) v e) list (λ e w. h e w .1)))) v z))
+          (all-map (λ l. Right Arc site q l × ((e : ℕ) → Walk Arc q v e → Before (l .node) (l .len) v e)) (λ l. Beaten (l .node)) (λ l y. (l .len, y .0 .short, y .1)) list
+          (all-zip (Right Arc site q) (λ l. (e : ℕ) → Walk Arc q v e → Before (l .node) (l .len) v e) list (L .right)
+          (all-swap (Walk Arc q v) (λ e l. Before (l .node) (l .len) v e) list (λ e w. h e w .1)))) v z))
 
 -- ---- the search's own list is one
 
@@ -165,7 +171,8 @@ module _ (R : Region) (ok : Valid R) (pos : (i : ℕ) → i < R .m → 1 ≤ R .
         record {
           is-site = p .1;
           short = subst (λ (x : ℕ). Shortest (ArcOf R) q v x) (omega arith) (m .2);
-          route = route-is R q s v (listed-ends R q k s L v (p .0) (p .1)) pos }
+          route = route-is R q s v (listed-ends R q k s L v (p .0) (p .1)) pos;
+        }
 
     -- x comes before any walk to y, by the length that the state holds
     before-at : (x y : ℕ) → T (taken s x) × T (isSite R x) → Earlier (ArcOf R) q x y → (e : ℕ) → Walk (ArcOf R) q y e → Before x (lenAt (s .best) x) y e
@@ -174,18 +181,20 @@ module _ (R : Region) (ok : Valid R) (pos : (i : ℕ) → i < R .m → 1 ≤ R .
     ordered : (vs : List ℕ) → ((v : ℕ) → T (memb v vs) → T (taken s v) × T (isSite R v)) → Asc (Earlier (ArcOf R) q) vs → Ordered (stops R s vs)
     unfolding stops
     ordered [] h a = tt
-    ordered (v ∷ vs) h a =
-        (all-stops R s (λ b. Before v (lenAt (s .best) v) (b .node) (b .len)) vs (λ y t. before-at v y (h v (memb-head v vs)) (a .0 y t) (lenAt (s .best) y) (right-at y (h y (memb-tail v y vs t)) .short .walk)),
-          ordered vs (λ y t. h y (memb-tail v y vs t)) (a .1))
+    ordered (v ∷ vs) h a = (
+      all-stops R s (λ b. Before v (lenAt (s .best) v) (b .node) (b .len)) vs (λ y t. before-at v y (h v (memb-head v vs)) (a .0 y t) (lenAt (s .best) y) (right-at y (h y (memb-tail v y vs t)) .short .walk)),
+      ordered vs (λ y t. h y (memb-tail v y vs t)) (a .1),
+    )
 
     listing-at : (vs : List ℕ) → ((v : ℕ) → T (memb v vs) → T (taken s v) × T (isSite R v)) → TheList R q k vs → Listing (ArcOf R) (isSite R) q k (stops R s vs)
     listing-at vs h F = record {
-        right = all-stops R s (Right (ArcOf R) (isSite R) q) vs (λ v t. right-at v (h v t));
-        ordered = ordered vs h (F .asc);
-        most = rw (length-stops R s vs) (F .size);
-        missing = λ v e z w u.
-            let r = F .rest v (z, (e, w)) (listed-not R s vs v u) in
-            (length-stops R s vs ∙ r .0, all-stops R s (λ l. Before (l .node) (l .len) v e) vs (λ x t. before-at x v (h x t) (r .1 x t) e w)) }
+      right = all-stops R s (Right (ArcOf R) (isSite R) q) vs (λ v t. right-at v (h v t));
+      ordered = ordered vs h (F .asc);
+      most = rw (length-stops R s vs) (F .size);
+      missing = λ v e z w u.
+          let r = F .rest v (z, (e, w)) (listed-not R s vs v u) in
+          (length-stops R s vs ∙ r .0, all-stops R s (λ l. Before (l .node) (l .len) v e) vs (λ x t. before-at x v (h x t) (r .1 x t) e w));
+    }
 
   pub list-right : Listing (ArcOf R) (isSite R) q k (listOf R est k q)
   unfolding listOf final taken

@@ -9,8 +9,8 @@ use native.Mathlib.Decide.{ℕ-discrete}
 use lib.Dec.{T, T-not, eqb, eqb→eq, eqb-refl, not-T}
 use lib.ListN.{length, take, length-take}
 use Rattle.meaning.specs.Taking.{memb}
-use Rattle.meaning.proofs.Bools.{decT, or-cases, or-left, or-right, nor-both}
-use Rattle.meaning.proofs.Scans.{count, count-more, count-none, count-le}
+use Rattle.meaning.proofs.Bools.{T-true, T-false, decT, or-cases, or-left, or-right, nor-both}
+use Rattle.meaning.proofs.Counting.{count, count-more, count-none, count-le}
 
 abbrev pub Asc : (ℕ → ℕ → Type 0) → List ℕ → Type 0
 Asc E [] = Unit {0}
@@ -155,7 +155,7 @@ pub asc-count : (E : ℕ → ℕ → Type 0) → ((x : ℕ) → E x x → ⊥) �
 unfolding memb
 asc-count E irr n [] a h = count-none (λ v. false) n (λ v. refl)
 asc-count E irr n (x ∷ xs) a h =
-    count-more (λ v. memb v xs) (λ v. memb v (x ∷ xs)) x n (h x (memb-head x xs)) (not-T (memb x xs) (λ t. irr x (a .0 x t))) (memb-head x xs) (λ v z. memb-else x v xs z)
+    count-more (λ v. memb v xs) (λ v. memb v (x ∷ xs)) x n (h x (memb-head x xs)) (T-false (memb x xs) (not-T (memb x xs) (λ t. irr x (a .0 x t)))) (T-true (memb x (x ∷ xs)) (memb-head x xs)) (λ v z. memb-else x v xs z)
     ∙ ap suc (asc-count E irr n xs (a .1) (λ y t. h y (memb-tail x y xs t)))
 
 pub asc-fits : (E : ℕ → ℕ → Type 0) → ((x : ℕ) → E x x → ⊥) → (n : ℕ) (p : List ℕ) → Asc E p → ((x : ℕ) → T (memb x p) → x < n) → length p ≤ n

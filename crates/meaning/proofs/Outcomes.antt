@@ -26,9 +26,10 @@ use Rattle.meaning.proofs.Passed.{Sound, sound, sound-valid, sound-weig
 
 pub judged-unique : (v : Verdict) (t : Tables) (q k : ℕ) (r r₁ r₂ : Rooms) (a₁ a₂ : Answer) → judged v t q k r r₁ a₁ → judged v t q k r r₂ a₂ → (a₁ ≡ a₂) × (r₁ ≡ r₂)
 judged-unique Fine t q k r r₁ r₂ a₁ a₂ x y =
-    let e = listing-unique (LeastArc (regionOf t)) (isSite (regionOf t)) (q - 1) (x .list) (y .list) (x .listing) (y .listing) in
-    (x .answer-is ∙ ap (λ (list : List Stop). Listed (length list) (takenCount (regionOf t) (aimOf t) k (q - 1))) e ∙ sym (y .answer-is),
-      x .rooms-are ∙ ap (filled r (t .n)) e ∙ sym (y .rooms-are))
+    let e = listing-unique (LeastArc (regionOf t)) (isSite (regionOf t)) (q - 1) (x .list) (y .list) (x .listing) (y .listing) in (
+      x .answer-is ∙ ap (λ (list : List Stop). Listed (length list) (takenCount (regionOf t) (aimOf t) k (q - 1))) e ∙ sym (y .answer-is),
+      x .rooms-are ∙ ap (filled r (t .n)) e ∙ sym (y .rooms-are),
+    )
 judged-unique (Faulty number place) t q k r r₁ r₂ a₁ a₂ x y = (x .answer-is ∙ sym (y .answer-is), x .rooms-are ∙ sym (y .rooms-are))
 
 -- the search; with k the panel's, the panel call
@@ -46,7 +47,7 @@ pub list-fits : {L : Limits} {t : Tables} {q k : ℕ} {r : Rooms} → Sound L t 
     → Listing (LeastArc (regionOf t)) (isSite (regionOf t)) (q - 1) k (listOf (regionOf t) est k (q - 1))
 list-fits {t = t} {q = q} {k = k} S est fits =
     listing-alike (least-alike (regionOf t) (q - 1)) (λ v. (λ z. z, λ z. z))
-      (list-right (regionOf t) (sound-valid S) (sound-weights S) est fits (q - 1) k (sound-query S))
+    (list-right (regionOf t) (sound-valid S) (sound-weights S) est fits (q - 1) k (sound-query S))
 
 abbrev pub answerOf : Verdict → Tables → ℕ → ℕ → Answer
 answerOf Fine t q k = Listed (length (listOf (regionOf t) (aimOf t) k (q - 1))) (takenCount (regionOf t) (aimOf t) k (q - 1))

@@ -108,7 +108,8 @@ good-arc L t i e =
       tail = inside 1 u (t .n) (d .0);
       head = inside 1 v (t .n) (d .1);
       weight = inside 1 w (L .weight) (b .0);
-      long = leb→le (squares (xAt t) (yAt t) (u - 1) (v - 1)) (w * w) (c .0) }
+      long = leb→le (squares (xAt t) (yAt t) (u - 1) (v - 1)) (w * w) (c .0);
+    }
 
 good-site : (t : Tables) (j : ℕ) → siteFault t j ≡ 0 → T (within 1 (getD (t .sites) j 0) (t .n)) × T (not (any (λ i. eqb (getD (t .sites) i 0) (getD (t .sites) j 0)) j))
 unfolding siteFault
@@ -141,14 +142,16 @@ sound L t q k r e =
       stands = λ j l. inside 1 (getD (t .sites) j 0) (t .n) (good-site t j (all-fine (siteFault t) (t .s) (p₇ .1) j l) .0);
       distinct = λ i j l b z.
           T-not (any (λ h. eqb (getD (t .sites) h 0) (getD (t .sites) j 0)) j) (good-site t j (all-fine (siteFault t) (t .s) (p₇ .1) j b) .1)
-            (any-of (λ h. eqb (getD (t .sites) h 0) (getD (t .sites) j 0)) j i l (subst (λ (x : ℕ). T (eqb (getD (t .sites) i 0) x)) z (eqb-refl (getD (t .sites) i 0)))) }
+          (any-of (λ h. eqb (getD (t .sites) h 0) (getD (t .sites) j 0)) j i l (subst (λ (x : ℕ). T (eqb (getD (t .sites) i 0) x)) z (eqb-refl (getD (t .sites) i 0))));
+    }
 
 module _ {L : Limits} {t : Tables} {q k : ℕ} {r : Rooms} (S : Sound L t q k r) where
   pub sound-valid : Valid (regionOf t)
   sound-valid = record {
-      tails = λ i l. let g = S .good i l .tail in omega arith;
-      heads = λ i l. let g = S .good i l .head in omega arith;
-      sites = λ j l. let g = S .stands j l in omega arith }
+    tails = λ i l. let g = S .good i l .tail in omega arith;
+    heads = λ i l. let g = S .good i l .head in omega arith;
+    sites = λ j l. let g = S .stands j l in omega arith;
+  }
 
   pub sound-weights : (i : ℕ) → i < t .m → 1 ≤ getD (t .weights) i 0
   sound-weights i l = S .good i l .weight .0

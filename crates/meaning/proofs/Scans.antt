@@ -1,4 +1,4 @@
--- What the scans of 0 to n-1 find, and counting.
+-- What the scans of 0 to n-1 find.
 use mathlib.Core.Path.{_≡_, refl, sym, ap, subst}
 use mathlib.Core.Logic.{_⊎_, inl, inr, _≢_}
 use mathlib.Core.Bool.{Bool, true, false, not, _||_, _&&_, cond}
@@ -15,11 +15,6 @@ cond-true b t x y = ap (λ c. cond c x y) (T-true b t)
 
 pub cond-false : {A : Type 0} (b : Bool) → T (not b) → (x y : A) → cond b x y ≡ y
 cond-false b t x y = ap (λ c. cond c x y) (T-false b t)
-
--- how many i below n have `ok`
-unfoldable pub count : (ℕ → Bool) → ℕ → ℕ
-count ok zero = 0
-count ok (suc i) = cond (ok i) (suc (count ok i)) (count ok i)
 
 pub record First (ok : ℕ → Bool) (f : ℕ → ℕ) (n v : ℕ) : Type 0 where
   pub below : v < n
@@ -102,54 +97,3 @@ any-is ok (suc i) t = go (or-cases (any ok i) (ok i) t) (any-is ok i)
     go : T (any ok i) ⊎ T (ok i) → (T (any ok i) → (v : ℕ) × (v < i) × T (ok v)) → (v : ℕ) × (v < suc i) × T (ok v)
     go (inl z) ih = let r = ih z in let l = r .1 in (r .0, omega arith, r .2)
     go (inr z) ih = (i, omega arith, z)
-
--- ---- counting
-
-pub count-le : (ok : ℕ → Bool) (n : ℕ) → count ok n ≤ n
-unfolding count
-count-le ok zero = omega arith
-count-le ok (suc i) = go (ok i) (count-le ok i)
-  where
-    go : (b : Bool) → count ok i ≤ i → cond b (suc (count ok i)) (count ok i) ≤ suc i
-    go true l = omega arith
-    go false l = omega arith
-
-pub count-full : (ok : ℕ → Bool) (n : ℕ) → count ok n ≡ n → (v : ℕ) → v < n → T (ok v)
-unfolding count
-count-full ok zero e v l = absurd (omega arith)
-count-full ok (suc i) e v l = go (decT (ok i)) (decLt v i) (count-full ok i)
-  where
-    go : T (ok i) ⊎ T (not (ok i)) → Dec (v < i) → (count ok i ≡ i → (v : ℕ) → v < i → T (ok v)) → T (ok v)
-    go (inl t) (yes z) ih = let p = cond-true (ok i) t (suc (count ok i)) (count ok i) in ih (omega arith) v z
-    go (inl t) (no z) ih = let c : v ≡ i = omega arith in rw c t
-    go (inr t) z ih = let p = cond-false (ok i) t (suc (count ok i)) (count ok i) in let b = count-le ok i in absurd (omega arith)
-
--- one more
-pub count-same : (P Q : ℕ → Bool) (n : ℕ) → ((v : ℕ) → v < n → Q v ≡ P v) → count Q n ≡ count P n
-unfolding count
-count-same P Q zero h = refl
-count-same P Q (suc i) h = rw (h i (omega arith), count-same P Q i (λ v l. h v (omega arith)))
-
-pub count-more : (P Q : ℕ → Bool) (u n : ℕ) → u < n → T (not (P u)) → T (Q u) → ((v : ℕ) → (v ≡ u → ⊥) → Q v ≡ P v) → count Q n ≡ suc (count P n)
-unfolding count
-count-more P Q u zero l p t h = absurd (omega arith)
-count-more P Q u (suc i) l p t h = go (decLt u i) (count-more P Q u i)
-  where
-    go : Dec (u < i) → (u < i → T (not (P u)) → T (Q u) → ((v : ℕ) → (v ≡ u → ⊥) → Q v ≡ P v) → count Q i ≡ suc (count P i))
-        → cond (Q i) (suc (count Q i)) (count Q i) ≡ suc (cond (P i) (suc (count P i)) (count P i))
-    go (yes z) ih = rw (h i (λ e. omega arith), ih z p t h) (at (P i))
-      where
-        at : (b : Bool) → cond b (suc (suc (count P i))) (suc (count P i)) ≡ suc (cond b (suc (count P i)) (count P i))
-        at true = refl
-        at false = refl
-    go (no z) ih =
-        let c : u ≡ i = omega arith in
-        let a = cond-true (Q i) (rw c at t) (suc (count Q i)) (count Q i) in
-        let b = cond-false (P i) (rw c at p) (suc (count P i)) (count P i) in
-        let s = count-same P Q i (λ v l. h v (λ e. omega arith)) in
-        omega arith
-
-pub count-none : (ok : ℕ → Bool) (n : ℕ) → ((v : ℕ) → ok v ≡ false) → count ok n ≡ 0
-unfolding count
-count-none ok zero h = refl
-count-none ok (suc i) h = rw (h i) (count-none ok i h)
