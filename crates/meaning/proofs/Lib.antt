@@ -22,5 +22,7 @@ pub mod Listings
 pub mod Alike
 pub mod Passed
 pub mod Outcomes
+pub mod Demands
+pub mod Stretches
 pub mod Independent
 pub mod Cases
