@@ -5,7 +5,6 @@ use mathlib.Core.Bool.{Bool, true, false, not, _||_, _&&_}
 use mathlib.Core.Option.{Option, none, some}
 use mathlib.Core.List.{List, [], _∷_, _++_, append-assoc, append-nil}
 use Prim.Native.Nat.{ℕ, zero, suc, _+_, _-_, _*_, _≤_, _<_}
-use native.Mathlib.Nat.{le-antisymm}
 use native.Mathlib.Decide.{decLt, ℕ-discrete}
 use native.Mathlib.Omega.{arith}
 use lib.Dec.{T, T-not, not-T, eqb, eqb→eq, eqb-refl}
@@ -25,7 +24,7 @@ use Rattle.meaning.proofs.States.{Has, Inv}
 use Rattle.meaning.proofs.Trace.{arcGives, prev, back, route}
 
 pub lowest-unique : (A : ℕ → ℕ → ℕ → Type 0) (q u x v : ℕ) → Lowest A q u v → Lowest A q x v → u ≡ x
-lowest-unique A q u x v a b = le-antisymm (a .low x (b .gives)) (b .low u (a .gives))
+lowest-unique A q u x v a b = let p = a .low x (b .gives) in let o = b .low u (a .gives) in omega arith
 
 -- at most one list is the route
 pub route-unique : {A : ℕ → ℕ → ℕ → Type 0} {q v : ℕ} {p : List ℕ} → RouteTo A q v p → (w : ℕ) (r : List ℕ) → RouteTo A q w r → v ≡ w → p ≡ r
