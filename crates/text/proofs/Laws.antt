@@ -6,18 +6,18 @@ use mathlib.Core.Bool.{Bool, true, false, cond, _&&_}
 use lib.ListN.{length, getD, take, drop, drop-of-length-le, length-drop}
 use lib.Seq.{drop-cons, take-all}
 use lib.Dec.{ltb, leb, eqb, eqb·suc-suc, eqb·zero-suc}
-use borrow.Author.Tests.{lt-ltb, eq-eqb, ne-eqb, le-leb, lt-leb, leb-true}
 use lib.IntN.{pos, negℤ, _-ℤ_, +ℤ-idl}
-use mir.Syntax.{w32}
-use mir.Val.{toZ, SFits}
-use mir.ValLaws.{toZ-pos}
 use native.Mathlib.Nat.{pow-le-pow-right, pow-suc}
 use native.Mathlib.Omega.{arith}
 use native.Mathlib.Numerals.{add-one}
+use mir.Syntax.{w32}
+use mir.Val.{toZ, SFits}
+use mir.ValLaws.{toZ-pos}
+use borrow.Author.Tests.{lt-ltb, eq-eqb, ne-eqb, le-leb, lt-leb, leb-true}
 use Rattle.meaning.specs.Text.{isDigit, number, lines, joined, fields, isBlank, first, others, none, same, digits}
-use Rattle.text.specs.Scan.{Below, run, isInk, inLine, lead}
 use Rattle.meaning.specs.declared.Number.{Number}
 use Rattle.meaning.specs.declared.Number.the-variants.{Value, NoNumber}
+use Rattle.text.specs.Scan.{Below, run, isInk, inLine, lead}
 
 -- a part from a start to the end
 pub tail-all : (xs : List ℕ) (a : ℕ) → take (length xs - a) (drop a xs) ≡ drop a xs

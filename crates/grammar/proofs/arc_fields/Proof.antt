@@ -1,6 +1,8 @@
-use Rattle.meaning.specs.Text.{same, number}
+use mathlib.Core.Path.{ap, _∙_, sym}
 use borrow.Author.Needs.{needs}
-use mathlib.Core.Path.{sym, _∙_}
+use Rattle.meaning.specs.Text.{fields, number}
+use Rattle.meaning.specs.Grammar.{lastNumber}
+use Rattle.grammar.proofs.Laws.{arc-line}
 use Rattle.grammar.proofs.arc_fields.Statement.{statement}
 use Rattle.grammar.proofs.arc_fields.Tie as tie
 
@@ -35,7 +37,13 @@ arc-data-requires : tie.Need-arc-data-requires
 arc-data-requires c κs = search needs
 
 returns : tie.Need-returns
-returns c = rw (sym (c .before .before .before .before .before .before .before .before .before .same .ensures) ∙ c .before .before .before .before .before .before .before .before .if1 .taken) (c .arc-data .ensures ∙ simp (c .before .before .before .before .before .number .ensures, c .before .before .before .number2 .ensures, c .before .last-number .ensures, c .before .before .before .before .before .before .word .ensures, c .before .before .before .before .word2 .ensures, c .before .before .after2 .ensures, c .before .before .before .before .before .before .before .after .ensures))
+returns c =
+    c .arc-data .ensures ∙ arc-line (fields (c .before .before .before .before .before .before .before .before .before .before .before .before .before .args .rest .now))
+    (c .before .before .before .before .before .before .before .after .ensures) (c .before .before .before .before .before .before .before .before .before .before .before .before .before .args .w .now)
+    (sym (c .before .before .before .before .before .before .before .before .before .same .ensures) ∙ c .before .before .before .before .before .before .before .before .if1 .taken)
+    (c .before .before .before .before .before .number .ensures ∙ ap number (c .before .before .before .before .before .before .word .ensures))
+    (c .before .before .before .number2 .ensures ∙ ap number (c .before .before .before .before .word2 .ensures))
+    (c .before .last-number .ensures ∙ ap lastNumber (c .before .before .after2 .ensures))
 
 returns-2 : tie.Need-returns-2
 returns-2 c = rw (sym (c .before .same .ensures) ∙ c .if1 .left)

@@ -1,10 +1,9 @@
-use Rattle.meaning.specs.Text.{first, others, same}
-use Rattle.meaning.specs.Grammar.{lastNumber, wordAux, wordSp}
+use mathlib.Core.Path.{ap, _∙_}
 use borrow.Author.Tests.{not-true, not-false}
 use borrow.Author.Needs.{needs}
-use Prim.Native.Nat.{ℕ}
-use mathlib.Core.Path.{ap, sym, _∙_}
-use mathlib.Core.List.{List}
+use Rattle.meaning.specs.Text.{fields}
+use Rattle.meaning.specs.Grammar.{wordAux, wordSp, lastNumber}
+use Rattle.grammar.proofs.Laws.{tested, no-aux, no-sp, no-third, counted}
 use Rattle.grammar.proofs.aux_count.Statement.{statement}
 use Rattle.grammar.proofs.aux_count.Tie as tie
 
@@ -18,7 +17,9 @@ same-requires : tie.Need-same-requires
 same-requires c κs = search needs
 
 returns : tie.Need-returns
-returns c = rw (sym (c .before .same .ensures ∙ ap (λ (x : List ℕ). same x wordAux) (c .before .before .before .word .ensures)) ∙ not-true (c .before .same .result) (c .if1 .taken))
+returns c =
+    no-aux (c .before .before .before .before .before .before .args .third .now) (fields (c .before .before .before .before .before .before .args .rest .now))
+    (tested wordAux (c .before .same .ensures) (c .before .before .before .word .ensures) (not-true _ (c .if1 .taken)))
 
 after-requires : tie.Need-after-requires
 after-requires c κs = search needs
@@ -33,7 +34,11 @@ same-requires-2 : tie.Need-same-requires-2
 same-requires-2 c κs = search needs
 
 returns-2 : tie.Need-returns-2
-returns-2 c = rw (sym (c .before .before .before .before .before .before .same .ensures ∙ ap (λ (x : List ℕ). same x wordAux) (c .before .before .before .before .before .before .before .before .word .ensures)) ∙ not-false (c .before .before .before .before .before .before .same .result) (c .before .before .before .before .before .if1 .left), sym (c .before .same2 .ensures ∙ ap (λ (x : List ℕ). same x wordSp) (c .before .before .before .word2 .ensures ∙ ap first (c .before .before .before .before .after .ensures))) ∙ not-true (c .before .same2 .result) (c .if2 .taken))
+returns-2 c =
+    no-sp (c .before .before .before .before .before .before .before .before .before .before .before .args .third .now) (fields (c .before .before .before .before .before .before .before .before .before .before .before .args .rest .now))
+    (c .before .before .before .before .after .ensures)
+    (tested wordAux (c .before .before .before .before .before .before .same .ensures) (c .before .before .before .before .before .before .before .before .word .ensures) (not-false _ (c .before .before .before .before .before .if1 .left)))
+    (tested wordSp (c .before .same2 .ensures) (c .before .before .before .word2 .ensures) (not-true _ (c .if2 .taken)))
 
 after-requires-2 : tie.Need-after-requires-2
 after-requires-2 c κs = search needs
@@ -51,10 +56,22 @@ last-number-requires : tie.Need-last-number-requires
 last-number-requires c κs = search needs
 
 returns-3 : tie.Need-returns-3
-returns-3 c = rw (sym (c .before .before .before .before .before .before .before .before .before .before .before .before .same .ensures ∙ ap (λ (x : List ℕ). same x wordAux) (c .before .before .before .before .before .before .before .before .before .before .before .before .before .before .word .ensures)) ∙ not-false (c .before .before .before .before .before .before .before .before .before .before .before .before .same .result) (c .before .before .before .before .before .before .before .before .before .before .before .if1 .left), sym (c .before .before .before .before .before .before .before .same2 .ensures ∙ ap (λ (x : List ℕ). same x wordSp) (c .before .before .before .before .before .before .before .before .before .word2 .ensures ∙ ap first (c .before .before .before .before .before .before .before .before .before .before .after .ensures))) ∙ not-false (c .before .before .before .before .before .before .before .same2 .result) (c .before .before .before .before .before .before .if2 .left), sym (c .before .before .before .same3 .ensures ∙ ap (λ (x : List ℕ). same x (c .before .before .before .before .before .before .before .before .before .before .before .before .before .before .before .before .before .args .third .now)) (c .before .before .before .before .word3 .ensures ∙ ap first (c .before .before .before .before .before .after2 .ensures ∙ ap others (c .before .before .before .before .before .before .before .before .before .before .after .ensures)))) ∙ c .before .before .if3 .taken) (c .last-number .ensures ∙ ap lastNumber (c .before .after3 .ensures ∙ ap others (c .before .before .before .before .before .after2 .ensures ∙ ap others (c .before .before .before .before .before .before .before .before .before .before .after .ensures))))
+returns-3 c =
+    c .last-number .ensures ∙ ap lastNumber (c .before .after3 .ensures) ∙ counted (c .before .before .before .before .before .before .before .before .before .before .before .before .before .before .before .before .before .args .third .now) (fields (c .before .before .before .before .before .before .before .before .before .before .before .before .before .before .before .before .before .args .rest .now))
+    (c .before .before .before .before .before .before .before .before .before .before .after .ensures)
+    (tested wordAux (c .before .before .before .before .before .before .before .before .before .before .before .before .same .ensures) (c .before .before .before .before .before .before .before .before .before .before .before .before .before .before .word .ensures) (not-false _ (c .before .before .before .before .before .before .before .before .before .before .before .if1 .left)))
+    (c .before .before .before .before .before .after2 .ensures)
+    (tested wordSp (c .before .before .before .before .before .before .before .same2 .ensures) (c .before .before .before .before .before .before .before .before .before .word2 .ensures) (not-false _ (c .before .before .before .before .before .before .if2 .left)))
+    (tested (c .before .before .before .before .before .before .before .before .before .before .before .before .before .before .before .before .before .args .third .now) (c .before .before .before .same3 .ensures) (c .before .before .before .before .word3 .ensures) (c .before .before .if3 .taken))
 
 returns-4 : tie.Need-returns-4
-returns-4 c = rw (sym (c .before .before .before .before .before .before .before .before .before .before .same .ensures ∙ ap (λ (x : List ℕ). same x wordAux) (c .before .before .before .before .before .before .before .before .before .before .before .before .word .ensures)) ∙ not-false (c .before .before .before .before .before .before .before .before .before .before .same .result) (c .before .before .before .before .before .before .before .before .before .if1 .left), sym (c .before .before .before .before .before .same2 .ensures ∙ ap (λ (x : List ℕ). same x wordSp) (c .before .before .before .before .before .before .before .word2 .ensures ∙ ap first (c .before .before .before .before .before .before .before .before .after .ensures))) ∙ not-false (c .before .before .before .before .before .same2 .result) (c .before .before .before .before .if2 .left), sym (c .before .same3 .ensures ∙ ap (λ (x : List ℕ). same x (c .before .before .before .before .before .before .before .before .before .before .before .before .before .before .before .args .third .now)) (c .before .before .word3 .ensures ∙ ap first (c .before .before .before .after2 .ensures ∙ ap others (c .before .before .before .before .before .before .before .before .after .ensures)))) ∙ c .if3 .left)
+returns-4 c =
+    no-third (c .before .before .before .before .before .before .before .before .before .before .before .before .before .before .before .args .third .now) (fields (c .before .before .before .before .before .before .before .before .before .before .before .before .before .before .before .args .rest .now))
+    (c .before .before .before .before .before .before .before .before .after .ensures)
+    (tested wordAux (c .before .before .before .before .before .before .before .before .before .before .same .ensures) (c .before .before .before .before .before .before .before .before .before .before .before .before .word .ensures) (not-false _ (c .before .before .before .before .before .before .before .before .before .if1 .left)))
+    (c .before .before .before .after2 .ensures)
+    (tested wordSp (c .before .before .before .before .before .same2 .ensures) (c .before .before .before .before .before .before .before .word2 .ensures) (not-false _ (c .before .before .before .before .if2 .left)))
+    (tested (c .before .before .before .before .before .before .before .before .before .before .before .before .before .before .before .args .third .now) (c .before .same3 .ensures) (c .before .before .word3 .ensures) (c .if3 .left))
 
 pub aux-count-spec : {M : Type 1} → statement M
 aux-count-spec =

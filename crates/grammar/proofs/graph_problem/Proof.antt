@@ -1,9 +1,8 @@
-use Rattle.meaning.specs.Text.{same, number}
-use Rattle.meaning.specs.Grammar.{wordSp}
+use mathlib.Core.Path.{ap, _∙_}
 use borrow.Author.Needs.{needs}
-use Prim.Native.Nat.{ℕ}
-use mathlib.Core.Path.{ap, sym, _∙_}
-use mathlib.Core.List.{List}
+use Rattle.meaning.specs.Text.{fields, number}
+use Rattle.meaning.specs.Grammar.{wordSp, lastNumber}
+use Rattle.grammar.proofs.Laws.{tested, graph-problem}
 use Rattle.grammar.proofs.graph_problem.Statement.{statement}
 use Rattle.grammar.proofs.graph_problem.Tie as tie
 
@@ -35,10 +34,15 @@ graph-counts-requires : tie.Need-graph-counts-requires
 graph-counts-requires c κs = search needs
 
 returns : tie.Need-returns
-returns c = rw (sym (c .before .before .before .before .before .before .before .same .ensures ∙ ap (λ (x : List ℕ). same x wordSp) (c .before .before .before .before .before .before .before .before .before .word .ensures)) ∙ c .before .before .before .before .before .before .if1 .taken) (c .graph-counts .ensures ∙ simp (c .before .before .before .number .ensures, c .before .last-number .ensures, c .before .before .before .before .word2 .ensures, c .before .before .after2 .ensures, c .before .before .before .before .before .after .ensures))
+returns c =
+    c .graph-counts .ensures ∙ graph-problem (fields (c .before .before .before .before .before .before .before .before .before .before .before .args .rest .now))
+    (c .before .before .before .before .before .after .ensures) (c .before .before .before .before .before .before .before .before .before .before .before .args .given)
+    (tested wordSp (c .before .before .before .before .before .before .before .same .ensures) (c .before .before .before .before .before .before .before .before .before .word .ensures) (c .before .before .before .before .before .before .if1 .taken))
+    (c .before .before .before .number .ensures ∙ ap number (c .before .before .before .before .word2 .ensures))
+    (c .before .last-number .ensures ∙ ap lastNumber (c .before .before .after2 .ensures))
 
 returns-2 : tie.Need-returns-2
-returns-2 c = rw (sym (c .before .same .ensures ∙ ap (λ (x : List ℕ). same x wordSp) (c .before .before .before .word .ensures)) ∙ c .if1 .left)
+returns-2 c = rw (tested wordSp (c .before .same .ensures) (c .before .before .before .word .ensures) (c .if1 .left))
 
 pub graph-problem-spec : {M : Type 1} → statement M
 graph-problem-spec =

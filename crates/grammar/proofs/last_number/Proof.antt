@@ -1,6 +1,6 @@
-use Rattle.meaning.specs.Text.{none, number}
-use borrow.Author.Needs.{needs}
 use mathlib.Core.Path.{ap, sym, _∙_}
+use borrow.Author.Needs.{needs}
+use Rattle.meaning.specs.Text.{none, number}
 use Rattle.grammar.proofs.last_number.Statement.{statement}
 use Rattle.grammar.proofs.last_number.Tie as tie
 

@@ -1,6 +1,6 @@
-use Rattle.meaning.specs.Text.{none, signed}
-use borrow.Author.Needs.{needs}
 use mathlib.Core.Path.{ap, sym, _∙_}
+use borrow.Author.Needs.{needs}
+use Rattle.meaning.specs.Text.{none, signed}
 use Rattle.grammar.proofs.last_signed.Statement.{statement}
 use Rattle.grammar.proofs.last_signed.Tie as tie
 

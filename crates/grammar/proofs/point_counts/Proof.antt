@@ -1,6 +1,6 @@
-use Rattle.meaning.specs.Grammar.{pointCounts}
-use borrow.Author.Needs.{needs}
 use mathlib.Core.Path.{ap, sym}
+use borrow.Author.Needs.{needs}
+use Rattle.meaning.specs.Grammar.{pointCounts}
 use Rattle.grammar.proofs.point_counts.Statement.{statement}
 use Rattle.grammar.proofs.point_counts.Tie as tie
 

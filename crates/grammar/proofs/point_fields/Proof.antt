@@ -1,6 +1,8 @@
-use Rattle.meaning.specs.Text.{same, number, signed}
+use mathlib.Core.Path.{ap, _∙_, sym}
 use borrow.Author.Needs.{needs}
-use mathlib.Core.Path.{sym, _∙_}
+use Rattle.meaning.specs.Text.{fields, signed, number}
+use Rattle.meaning.specs.Grammar.{lastSigned}
+use Rattle.grammar.proofs.Laws.{point-line}
 use Rattle.grammar.proofs.point_fields.Statement.{statement}
 use Rattle.grammar.proofs.point_fields.Tie as tie
 
@@ -35,7 +37,13 @@ point-data-requires : tie.Need-point-data-requires
 point-data-requires c κs = search needs
 
 returns : tie.Need-returns
-returns c = rw (sym (c .before .before .before .before .before .before .before .before .before .same .ensures) ∙ c .before .before .before .before .before .before .before .before .if1 .taken) (c .point-data .ensures ∙ simp (c .before .before .before .before .before .number .ensures, c .before .before .before .signed .ensures, c .before .last-signed .ensures, c .before .before .before .before .before .before .word .ensures, c .before .before .before .before .word2 .ensures, c .before .before .after2 .ensures, c .before .before .before .before .before .before .before .after .ensures))
+returns c =
+    c .point-data .ensures ∙ point-line (fields (c .before .before .before .before .before .before .before .before .before .before .before .before .before .args .rest .now))
+    (c .before .before .before .before .before .before .before .after .ensures) (c .before .before .before .before .before .before .before .before .before .before .before .before .before .args .w .now)
+    (sym (c .before .before .before .before .before .before .before .before .before .same .ensures) ∙ c .before .before .before .before .before .before .before .before .if1 .taken)
+    (c .before .before .before .before .before .number .ensures ∙ ap number (c .before .before .before .before .before .before .word .ensures))
+    (c .before .before .before .signed .ensures ∙ ap signed (c .before .before .before .before .word2 .ensures))
+    (c .before .last-signed .ensures ∙ ap lastSigned (c .before .before .after2 .ensures))
 
 returns-2 : tie.Need-returns-2
 returns-2 c = rw (sym (c .before .same .ensures) ∙ c .if1 .left)

@@ -1,6 +1,6 @@
-use Rattle.meaning.specs.Grammar.{pointCounts, siteCounts}
-use borrow.Author.Needs.{needs}
 use mathlib.Core.Path.{ap, _∙_}
+use borrow.Author.Needs.{needs}
+use Rattle.meaning.specs.Grammar.{pointCounts, siteCounts}
 use Rattle.grammar.proofs.problem_of.Statement.{statement}
 use Rattle.grammar.proofs.problem_of.Tie as tie
 

@@ -1,7 +1,6 @@
-use Rattle.meaning.specs.Text.{same}
-use Rattle.meaning.specs.Grammar.{siteData}
-use borrow.Author.Needs.{needs}
 use mathlib.Core.Path.{ap, sym, _∙_}
+use borrow.Author.Needs.{needs}
+use Rattle.meaning.specs.Grammar.{siteData}
 use Rattle.grammar.proofs.site_fields.Statement.{statement}
 use Rattle.grammar.proofs.site_fields.Tie as tie
 

@@ -1,7 +1,7 @@
-use Rattle.text.proofs.Laws.{run-le, tail-all, word-others}
-use Rattle.text.specs.Scan.{isInk}
-use borrow.Author.Needs.{needs}
 use native.Mathlib.Omega.{arith}
+use borrow.Author.Needs.{needs}
+use Rattle.text.specs.Scan.{isInk}
+use Rattle.text.proofs.Laws.{run-le, tail-all, word-others}
 use Rattle.text.proofs.after.Statement.{statement}
 use Rattle.text.proofs.after.Tie as tie
 

@@ -1,10 +1,10 @@
-use Rattle.meaning.specs.Text.{isBlank}
-use Rattle.text.specs.Scan.{run}
-use Rattle.text.proofs.Laws.{run-go, run-halt, run-end}
-use borrow.Author.Needs.{needs}
 use Prim.Native.Nat.{_+_, _-_, _≤_}
 use mathlib.Core.Path.{_≡_, sym, _∙_}
 use lib.ListN.{length, drop}
+use borrow.Author.Needs.{needs}
+use Rattle.meaning.specs.Text.{isBlank}
+use Rattle.text.specs.Scan.{run}
+use Rattle.text.proofs.Laws.{run-go, run-halt, run-end}
 use Rattle.text.proofs.blanks.Statement.{statement}
 use Rattle.text.proofs.blanks.Tie as tie
 

@@ -1,5 +1,5 @@
-use Rattle.text.proofs.Laws.{blank-none}
 use borrow.Author.Needs.{needs}
+use Rattle.text.proofs.Laws.{blank-none}
 use Rattle.text.proofs.ended.Statement.{statement}
 use Rattle.text.proofs.ended.Tie as tie
 

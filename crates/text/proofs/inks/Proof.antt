@@ -1,10 +1,10 @@
-use Rattle.text.specs.Scan.{run, isInk}
-use mathlib.Core.Bool.{not}
-use Rattle.text.proofs.Laws.{run-go, run-halt, run-end}
-use borrow.Author.Needs.{needs}
 use Prim.Native.Nat.{_+_, _-_, _≤_}
+use mathlib.Core.Bool.{not}
 use mathlib.Core.Path.{_≡_, ap, sym, _∙_}
 use lib.ListN.{length, drop}
+use borrow.Author.Needs.{needs}
+use Rattle.text.specs.Scan.{run, isInk}
+use Rattle.text.proofs.Laws.{run-go, run-halt, run-end}
 use Rattle.text.proofs.inks.Statement.{statement}
 use Rattle.text.proofs.inks.Tie as tie
 

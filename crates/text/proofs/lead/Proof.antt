@@ -1,7 +1,7 @@
-use Rattle.text.proofs.Laws.{run-le, tail-all}
-use Rattle.meaning.specs.Text.{isBlank}
-use borrow.Author.Needs.{needs}
 use native.Mathlib.Omega.{arith}
+use borrow.Author.Needs.{needs}
+use Rattle.meaning.specs.Text.{isBlank}
+use Rattle.text.proofs.Laws.{run-le, tail-all}
 use Rattle.text.proofs.lead.Statement.{statement}
 use Rattle.text.proofs.lead.Tie as tie
 

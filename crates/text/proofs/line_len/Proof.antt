@@ -1,11 +1,11 @@
-use Rattle.text.specs.Scan.{run, inLine}
-use mathlib.Core.Bool.{not}
-use Rattle.text.proofs.Laws.{run-go, run-halt, run-end}
-use borrow.Author.Needs.{needs}
 use Prim.Native.Nat.{_+_, _-_, _≤_}
+use mathlib.Core.Bool.{not}
 use mathlib.Core.Path.{_≡_, ap}
 use lib.ListN.{length, drop}
+use borrow.Author.Needs.{needs}
 use borrow.Author.Tests.{eq-eqb, ne-eqb}
+use Rattle.text.specs.Scan.{run, inLine}
+use Rattle.text.proofs.Laws.{run-go, run-halt, run-end}
 use Rattle.text.proofs.line_len.Statement.{statement}
 use Rattle.text.proofs.line_len.Tie as tie
 

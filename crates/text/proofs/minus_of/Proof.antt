@@ -1,12 +1,12 @@
-use lib.IntN.{pos, negℤ}
+use Prim.Native.Nat.{_<_}
 use mathlib.Core.Path.{subst}
+use lib.IntN.{pos, negℤ}
+use native.Mathlib.Omega.{arith}
 use mir.Syntax.{w32}
 use mir.ValLaws.{toZ-ofZ}
+use borrow.Author.Needs.{needs}
 use Rattle.text.specs.Scan.{Below}
 use Rattle.text.proofs.Laws.{minus-eq, minus-fits}
-use native.Mathlib.Omega.{arith}
-use Prim.Native.Nat.{_<_}
-use borrow.Author.Needs.{needs}
 use Rattle.text.proofs.minus_of.Statement.{statement}
 use Rattle.text.proofs.minus_of.Tie as tie
 use Rattle.text.proofs.minus_of.Reads as reads

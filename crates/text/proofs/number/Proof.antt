@@ -1,13 +1,13 @@
-use native.Mathlib.Nat.{pow-le-pow-right, pow-suc}
-use native.Mathlib.Numerals.{add-one}
-use Rattle.meaning.specs.Text.{digits}
 use Prim.Native.Nat.{_^_, ℕ, _-_, _≤_, _<_}
-use Rattle.text.proofs.Laws.{digits-go, digits-low, digits-high, digits-end}
-use borrow.Author.Needs.{needs}
-use native.Mathlib.Omega.{arith}
 use mathlib.Core.Path.{_≡_, sym, _∙_}
 use lib.ListN.{length, drop}
+use native.Mathlib.Nat.{pow-le-pow-right, pow-suc}
+use native.Mathlib.Numerals.{add-one}
+use native.Mathlib.Omega.{arith}
+use borrow.Author.Needs.{needs}
 use borrow.Author.Tests.{le-leb, lt-leb, lt-ltb, le-ltb}
+use Rattle.meaning.specs.Text.{digits}
+use Rattle.text.proofs.Laws.{digits-go, digits-low, digits-high, digits-end}
 use Rattle.text.proofs.number.Statement.{statement}
 use Rattle.text.proofs.number.Tie as tie
 

@@ -1,10 +1,10 @@
-use Rattle.text.proofs.Laws.{run-le, tail-all}
-use Rattle.text.specs.Scan.{inLine, run}
-use lib.ListN.{length-drop, drop}
-use borrow.Author.Needs.{needs}
-use native.Mathlib.Omega.{arith}
 use mathlib.Core.Path.{ap, _∙_}
+use lib.ListN.{length-drop, drop}
+use native.Mathlib.Omega.{arith}
+use borrow.Author.Needs.{needs}
 use borrow.Author.Tests.{lt-ltb, le-ltb}
+use Rattle.text.specs.Scan.{inLine, run}
+use Rattle.text.proofs.Laws.{run-le, tail-all}
 use Rattle.text.proofs.piece_at.Statement.{statement}
 use Rattle.text.proofs.piece_at.Tie as tie
 

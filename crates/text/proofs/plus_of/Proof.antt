@@ -1,9 +1,9 @@
+use Prim.Native.Nat.{_<_}
 use mathlib.Core.Path.{subst}
+use native.Mathlib.Omega.{arith}
+use borrow.Author.Needs.{needs}
 use Rattle.text.specs.Scan.{Below}
 use Rattle.text.proofs.Laws.{plus-eq}
-use native.Mathlib.Omega.{arith}
-use Prim.Native.Nat.{_<_}
-use borrow.Author.Needs.{needs}
 use Rattle.text.proofs.plus_of.Statement.{statement}
 use Rattle.text.proofs.plus_of.Tie as tie
 use Rattle.text.proofs.plus_of.Reads as reads

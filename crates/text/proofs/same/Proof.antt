@@ -1,9 +1,9 @@
-use Rattle.meaning.specs.Text.{same}
-use Rattle.text.proofs.Laws.{same-ne, same-go, same-halt, same-end}
-use borrow.Author.Needs.{needs}
 use Prim.Native.Nat.{_-_, _≤_}
 use mathlib.Core.Path.{_≡_, sym, _∙_}
 use lib.ListN.{length, drop}
+use borrow.Author.Needs.{needs}
+use Rattle.meaning.specs.Text.{same}
+use Rattle.text.proofs.Laws.{same-ne, same-go, same-halt, same-end}
 use Rattle.text.proofs.same.Statement.{statement}
 use Rattle.text.proofs.same.Tie as tie
 

@@ -1,12 +1,12 @@
+use Prim.Native.Nat.{ℕ, _-_}
 use mathlib.Core.Path.{subst, ap, sym, _∙_}
-use Rattle.text.specs.Scan.{Below}
-use Rattle.text.proofs.Laws.{number-below, tail-all}
-use Rattle.meaning.specs.Text.{plus, minus, number as numberOf}
+use mathlib.Core.List.{List}
 use lib.ListN.{List·getD-eq-default, length, take, drop}
 use borrow.Author.Needs.{needs}
-use Prim.Native.Nat.{ℕ, _-_}
-use mathlib.Core.List.{List}
 use borrow.Author.Tests.{eq-eqb, ne-eqb, le-ltb}
+use Rattle.meaning.specs.Text.{plus, minus, number as numberOf}
+use Rattle.text.specs.Scan.{Below}
+use Rattle.text.proofs.Laws.{number-below, tail-all}
 use Rattle.text.proofs.signed.Statement.{statement}
 use Rattle.text.proofs.signed.Tie as tie
 

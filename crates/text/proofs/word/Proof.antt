@@ -1,9 +1,9 @@
-use Rattle.text.proofs.Laws.{run-le, word-first}
-use Rattle.text.specs.Scan.{isInk}
-use lib.Seq.{length-take-le}
-use borrow.Author.Needs.{needs}
-use native.Mathlib.Omega.{arith}
 use mathlib.Core.Path.{sym}
+use lib.Seq.{length-take-le}
+use native.Mathlib.Omega.{arith}
+use borrow.Author.Needs.{needs}
+use Rattle.text.specs.Scan.{isInk}
+use Rattle.text.proofs.Laws.{run-le, word-first}
 use Rattle.text.proofs.word.Statement.{statement}
 use Rattle.text.proofs.word.Tie as tie
 
