@@ -3,8 +3,8 @@ use Prim.Native.Nat.{ℕ, zero, suc, _^_, _+_, _-_, _*_, _≤_, _<_}
 use mathlib.Core.Path.{_≡_, refl, ap, sym, _∙_}
 use mathlib.Core.List.{List, [], _∷_}
 use mathlib.Core.Bool.{Bool, true, false, cond, _&&_}
-use lib.ListN.{length, getD, take, drop, drop-of-length-le, length-drop}
-use lib.Seq.{drop-cons, take-all}
+use lib.ListN.{List·getD-eq-default, length, getD, take, drop, drop-of-length-le, length-drop}
+use lib.Seq.{drop-drop, drop-cons, take-all}
 use lib.Dec.{ltb, leb, eqb, eqb·suc-suc, eqb·zero-suc}
 use lib.IntN.{pos, negℤ, _-ℤ_, +ℤ-idl}
 use native.Mathlib.Nat.{pow-le-pow-right, pow-suc}
@@ -13,10 +13,13 @@ use native.Mathlib.Numerals.{add-one}
 use mir.Syntax.{w32}
 use mir.Val.{toZ, SFits}
 use mir.ValLaws.{toZ-pos}
-use borrow.Author.Tests.{lt-ltb, eq-eqb, ne-eqb, le-leb, lt-leb, leb-true}
-use Rattle.meaning.specs.Text.{isDigit, number, lines, joined, fields, isBlank, first, others, none, same, digits}
+use borrow.Author.Tests.{le-ltb, lt-ltb, eq-eqb, ne-eqb, le-leb, lt-leb, leb-true}
+use Rattle.meaning.specs.Text.{trim, signed, plus, minus, isDigit, number, lines, joined, fields, isBlank, first, others, none, same, digits}
+use Rattle.meaning.specs.declared.Signed.the-variants.{NoCoordinate}
 use Rattle.meaning.specs.declared.Number.{Number}
 use Rattle.meaning.specs.declared.Number.the-variants.{Value, NoNumber}
+use Rattle.text.specs.Read.{pieceAt}
+use Rattle.text.specs.declared.Piece.the-variants.{Line, End}
 use Rattle.text.specs.Scan.{Below, run, isInk, inLine, lead}
 
 -- a part from a start to the end
@@ -71,6 +74,45 @@ lines-all (b ∷ bs) = rw (lt-ltb 0 (suc (length bs)) (omega arith)) (line-by b 
 
 pub lines-cut : (xs : List ℕ) → 0 < length xs → lines xs ≡ cut xs
 lines-cut xs h = rw (lt-ltb 0 (length xs) h) at (lines-all xs)
+
+-- the line that starts at a position of a text lies inside it
+pub line-inside : (text : List ℕ) (at : ℕ) → at < length text → at + run inLine (drop at text) ≤ length text
+line-inside text at h = omega (arith, run-le inLine (drop at text), length-drop at text)
+
+-- and it is the first of the lines from there on
+pub lines-at : (text : List ℕ) (at : ℕ) → at < length text
+    → lines (drop at text) ≡ take (run inLine (drop at text)) (drop at text) ∷ lines (drop (at + run inLine (drop at text) + 1) text)
+lines-at text at h =
+    let len : ℕ = run inLine (drop at text) in
+    let same-place : at + suc len ≡ at + len + 1 = omega arith in
+    let rest : drop (suc len) (drop at text) ≡ drop (at + len + 1) text
+    = drop-drop (suc len) at text ∙ ap (λ (k : ℕ). drop k text) same-place in
+    lines-cut (drop at text) (omega (arith, length-drop at text)) ∙ ap (λ (r : List ℕ). take len (drop at text) ∷ lines r) rest
+
+-- len: the length of that line, as the code finds it
+module _ (text : List ℕ) (at len : ℕ) (h : at < length text) (e : len ≡ run inLine (take (length text - at) (drop at text))) where
+  length-at : len ≡ run inLine (drop at text)
+  length-at = e ∙ ap (run inLine) (tail-all text at)
+
+  pub piece-inside : at + len ≤ length text
+  piece-inside = omega (arith, length-at, line-inside text at h)
+
+  pub piece-line : Line at len (at + len + 1) ≡ pieceAt text at
+  piece-line = rw (lt-ltb at (length text) h, length-at)
+
+pub piece-end : (text : List ℕ) (at : ℕ) → length text ≤ at → End ≡ pieceAt text at
+piece-end text at h = rw (le-ltb at (length text) h)
+
+-- "one CR just before that end is dropped"
+module _ (l : List ℕ) where
+  pub trim-empty : length l ≡ 0 → l ≡ trim l
+  trim-empty h = rw (List·getD-eq-default l 0 {n = length l - 1} (omega arith))
+
+  pub trim-cr : getD l (length l - 1) 0 ≡ 13 → take (length l - 1) l ≡ trim l
+  trim-cr h = rw h
+
+  pub trim-other : (getD l (length l - 1) 0 ≡ 13 → ⊥) → l ≡ trim l
+  trim-other h = rw (ne-eqb (getD l (length l - 1) 0) 13 h)
 
 skip-by : (b : ℕ) (bs : List ℕ) (t : Bool) → isBlank b ≡ t → fields bs ≡ fields (drop (run isBlank bs) bs)
     → fields (b ∷ bs) ≡ fields (drop (run isBlank (b ∷ bs)) (b ∷ bs))
@@ -142,29 +184,46 @@ same-ne [] (y ∷ ys) h = refl
 same-ne (x ∷ xs) [] h = refl
 same-ne (x ∷ xs) (y ∷ ys) h = same-ne-by x y xs ys (eqb x y) refl (same-ne xs ys (λ e. h (ap suc e)))
 
-module _ (xs ys : List ℕ) (i : ℕ) (hx : i < length xs) (hy : i < length ys) where
-  pub same-go : getD xs i 0 ≡ getD ys i 0 → same (drop i xs) (drop i ys) ≡ same (drop (i + 1) xs) (drop (i + 1) ys)
-  same-go e = rw (add-one, drop-cons xs i 0 hx, drop-cons ys i 0 hy, eq-eqb (getD xs i 0) (getD ys i 0) e)
+-- i bytes are found equal: the three ways on
+module _ (xs ys : List ℕ) (i : ℕ) (sofar : same xs ys ≡ same (drop i xs) (drop i ys)) where
+  module _ (hx : i < length xs) (hy : i < length ys) where
+    pub same-go : getD xs i 0 ≡ getD ys i 0 → same xs ys ≡ same (drop (i + 1) xs) (drop (i + 1) ys)
+    same-go e = sofar ∙ rw (add-one, drop-cons xs i 0 hx, drop-cons ys i 0 hy, eq-eqb (getD xs i 0) (getD ys i 0) e)
 
-  pub same-halt : (getD xs i 0 ≡ getD ys i 0 → ⊥) → same (drop i xs) (drop i ys) ≡ false
-  same-halt e = rw (drop-cons xs i 0 hx, drop-cons ys i 0 hy, ne-eqb (getD xs i 0) (getD ys i 0) e)
+    pub same-halt : (getD xs i 0 ≡ getD ys i 0 → ⊥) → false ≡ same xs ys
+    same-halt e = sym (sofar ∙ rw (drop-cons xs i 0 hx, drop-cons ys i 0 hy, ne-eqb (getD xs i 0) (getD ys i 0) e))
 
-pub same-end : (xs ys : List ℕ) (i : ℕ) → length xs ≤ i → length ys ≤ i → same (drop i xs) (drop i ys) ≡ true
-same-end xs ys i hx hy = rw (drop-of-length-le xs hx, drop-of-length-le ys hy)
+  pub same-end : length xs ≤ i → length ys ≤ i → true ≡ same xs ys
+  same-end hx hy = sym (sofar ∙ rw (drop-of-length-le xs hx, drop-of-length-le ys hy))
 
--- the digits of a number, read one by one
-module _ (f : List ℕ) (i v : ℕ) (h : i < length f) where
-  pub digits-go : 48 ≤ getD f i 0 → getD f i 0 ≤ 57 → digits v (drop i f) ≡ digits (v * 10 + (getD f i 0 - 48)) (drop (i + 1) f)
-  digits-go lo hi = rw (add-one, drop-cons f i 0 h, le-leb 48 (getD f i 0) lo, le-leb (getD f i 0) 57 hi)
+-- "A number is 1 to 9 decimal digits"
+pub number-empty : (f : List ℕ) → length f ≡ 0 → NoNumber ≡ number f
+number-empty f h = rw h
 
-  pub digits-low : getD f i 0 < 48 → digits v (drop i f) ≡ NoNumber
-  digits-low lo = rw (drop-cons f i 0 h, lt-leb 48 (getD f i 0) lo)
+pub number-long : (f : List ℕ) → 9 < length f → NoNumber ≡ number f
+number-long f h = rw (le-leb 1 (length f) (omega arith), lt-leb (length f) 9 h)
 
-  pub digits-high : 48 ≤ getD f i 0 → 57 < getD f i 0 → digits v (drop i f) ≡ NoNumber
-  digits-high lo hi = rw (drop-cons f i 0 h, le-leb 48 (getD f i 0) lo, lt-leb (getD f i 0) 57 hi)
+pub number-digits : (f : List ℕ) → 1 ≤ length f → length f ≤ 9 → number f ≡ digits 0 f
+number-digits f l h = rw (le-leb 1 (length f) l, le-leb (length f) 9 h)
 
-pub digits-end : (f : List ℕ) (i v : ℕ) → length f ≤ i → digits v (drop i f) ≡ Value v
-digits-end f i v h = rw (drop-of-length-le f h)
+-- i digits are read, with the value v: the four ways on
+module _ (f : List ℕ) (i v : ℕ) (sofar : number f ≡ digits v (drop i f)) where
+  module _ (h : i < length f) where
+    pub digits-go : 48 ≤ getD f i 0 → getD f i 0 ≤ 57 → number f ≡ digits (v * 10 + (getD f i 0 - 48)) (drop (i + 1) f)
+    digits-go lo hi = sofar ∙ rw (add-one, drop-cons f i 0 h, le-leb 48 (getD f i 0) lo, le-leb (getD f i 0) 57 hi)
+
+    pub digits-low : getD f i 0 < 48 → NoNumber ≡ number f
+    digits-low lo = sym (sofar ∙ rw (drop-cons f i 0 h, lt-leb 48 (getD f i 0) lo))
+
+    pub digits-high : 48 ≤ getD f i 0 → 57 < getD f i 0 → NoNumber ≡ number f
+    digits-high lo hi = sym (sofar ∙ rw (drop-cons f i 0 h, le-leb 48 (getD f i 0) lo, lt-leb (getD f i 0) 57 hi))
+
+  pub digits-end : length f ≤ i → Value v ≡ number f
+  digits-end h = sym (sofar ∙ rw (drop-of-length-le f h))
+
+-- nine digits stay below this
+pub ninth : (i : ℕ) → i < 9 → 10 ^ i ≤ 100000000
+ninth i h = pow-le-pow-right {n = 10} (omega arith) {i = i} {j = 8} (omega arith)
 
 second : (s t : Bool) → s && t ≡ true → t ≡ true
 second true t h = h
@@ -196,7 +255,7 @@ number-below-by f true true d e =
 number-below-by f true false d e = rw (d, e) tt
 number-below-by f false u d e = rw d tt
 
--- "A number is 1 to 9 decimal digits"
+-- what makes a number fit an i32
 pub number-below : (f : List ℕ) → Below 1000000000 (number f)
 number-below f = number-below-by f (leb 1 (length f)) (leb (length f) 9) refl refl
 
@@ -211,3 +270,14 @@ module _ (v : ℕ) (h : v < 1000000000) where
 pub minus-fits : (v : ℕ) → v < 1000000000 → SFits w32 (negℤ (pos v))
 minus-fits zero h = record { sfits = omega arith }
 minus-fits (suc v) h = record { sfits = omega arith }
+
+-- "X and Y may have one minus sign before the digits"
+module _ (f : List ℕ) where
+  pub signed-empty : length f ≡ 0 → NoCoordinate ≡ signed f
+  signed-empty h = rw (List·getD-eq-default f 0 {n = 0} (omega arith), h)
+
+  pub signed-minus : {n : Number} → getD f 0 0 ≡ 45 → n ≡ number (take (length f - 1) (drop 1 f)) → minus n ≡ signed f
+  signed-minus h e = rw h (ap minus (e ∙ ap number (tail-all f 1)))
+
+  pub signed-plus : {n : Number} → (getD f 0 0 ≡ 45 → ⊥) → n ≡ number f → plus n ≡ signed f
+  signed-plus h e = rw (ne-eqb (getD f 0 0) 45 h) (ap plus e)

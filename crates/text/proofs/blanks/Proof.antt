@@ -8,6 +8,7 @@ use Rattle.text.proofs.Laws.{run-go, run-halt, run-end}
 use Rattle.text.proofs.blanks.Statement.{statement}
 use Rattle.text.proofs.blanks.Tie as tie
 
+-- i blanks are passed, and the run goes on with that of the rest
 abbrev Inv-loop : tie.InvT-loop
 Inv-loop rest i₀ i = (i ≤ length rest) × (run isBlank rest ≡ i + run isBlank (drop i rest))
 

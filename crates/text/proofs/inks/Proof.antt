@@ -8,6 +8,7 @@ use Rattle.text.proofs.Laws.{run-go, run-halt, run-end}
 use Rattle.text.proofs.inks.Statement.{statement}
 use Rattle.text.proofs.inks.Tie as tie
 
+-- i bytes of the field are passed, and the run goes on with that of the rest
 abbrev Inv-loop : tie.InvT-loop
 Inv-loop rest i₀ i = (i ≤ length rest) × (run isInk rest ≡ i + run isInk (drop i rest))
 

@@ -9,6 +9,7 @@ use Rattle.text.proofs.Laws.{run-go, run-halt, run-end}
 use Rattle.text.proofs.line_len.Statement.{statement}
 use Rattle.text.proofs.line_len.Tie as tie
 
+-- i bytes of the line are passed, and the run goes on with that of the rest
 abbrev Inv-loop : tie.InvT-loop
 Inv-loop rest i₀ i = (i ≤ length rest) × (run inLine rest ≡ i + run inLine (drop i rest))
 

@@ -1,10 +1,6 @@
-use mathlib.Core.Path.{ap, _∙_}
-use lib.ListN.{length-drop, drop}
 use native.Mathlib.Omega.{arith}
 use borrow.Author.Needs.{needs}
-use borrow.Author.Tests.{lt-ltb, le-ltb}
-use Rattle.text.specs.Scan.{inLine, run}
-use Rattle.text.proofs.Laws.{run-le, tail-all}
+use Rattle.text.proofs.Laws.{piece-inside, piece-line, piece-end}
 use Rattle.text.proofs.piece_at.Statement.{statement}
 use Rattle.text.proofs.piece_at.Tie as tie
 
@@ -21,16 +17,16 @@ line-len-requires : tie.Need-line-len-requires
 line-len-requires c κs = search needs
 
 add-t8 : tie.Need-add-t8
-add-t8 c = omega (arith, c .line-len .ensures ∙ ap (run inLine) (tail-all (c .before .before .before .before .args .s .now) (c .before .before .before .before .args .at)), run-le inLine (drop (c .before .before .before .before .args .at) (c .before .before .before .before .args .s .now)), length-drop (c .before .before .before .before .args .at) (c .before .before .before .before .args .s .now))
+add-t8 c = omega (arith, piece-inside (c .before .before .before .before .args .s .now) (c .before .before .before .before .args .at) _ (c .before .before .if1 .taken) (c .line-len .ensures))
 
 add-t11 : tie.Need-add-t11
-add-t11 c = omega (arith, c .line-len .ensures ∙ ap (run inLine) (tail-all (c .before .before .before .before .args .s .now) (c .before .before .before .before .args .at)), run-le inLine (drop (c .before .before .before .before .args .at) (c .before .before .before .before .args .s .now)), length-drop (c .before .before .before .before .args .at) (c .before .before .before .before .args .s .now))
+add-t11 c = omega (arith, piece-inside (c .before .before .before .before .args .s .now) (c .before .before .before .before .args .at) _ (c .before .before .if1 .taken) (c .line-len .ensures))
 
 returns : tie.Need-returns
-returns c = rw (lt-ltb _ _ (c .before .before .if1 .taken), c .line-len .ensures, tail-all (c .before .before .before .before .args .s .now) (c .before .before .before .before .args .at))
+returns c = piece-line (c .before .before .before .before .args .s .now) (c .before .before .before .before .args .at) _ (c .before .before .if1 .taken) (c .line-len .ensures)
 
 returns-2 : tie.Need-returns-2
-returns-2 c = rw (le-ltb _ _ (c .if1 .left))
+returns-2 c = piece-end (c .before .before .args .s .now) (c .before .before .args .at) (c .if1 .left)
 
 pub piece-at-spec : {M : Type 1} → statement M
 piece-at-spec =

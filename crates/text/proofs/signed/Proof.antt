@@ -1,17 +1,15 @@
 use Prim.Native.Nat.{ℕ, _-_}
-use mathlib.Core.Path.{subst, ap, sym, _∙_}
+use mathlib.Core.Path.{subst, sym, _∙_}
 use mathlib.Core.List.{List}
-use lib.ListN.{List·getD-eq-default, length, take, drop}
+use lib.ListN.{length, take, drop}
 use borrow.Author.Needs.{needs}
-use borrow.Author.Tests.{eq-eqb, ne-eqb, le-ltb}
-use Rattle.meaning.specs.Text.{plus, minus, number as numberOf}
 use Rattle.text.specs.Scan.{Below}
-use Rattle.text.proofs.Laws.{number-below, tail-all}
+use Rattle.text.proofs.Laws.{signed-empty, signed-minus, signed-plus, number-below}
 use Rattle.text.proofs.signed.Statement.{statement}
 use Rattle.text.proofs.signed.Tie as tie
 
 returns : tie.Need-returns
-returns c = rw (List·getD-eq-default (c .before .before .args .f .now) 0 {n = 0} (search needs), le-ltb 0 (length (c .before .before .args .f .now)) (search needs))
+returns c = signed-empty (c .before .before .args .f .now) (c .if1 .taken)
 
 shared-slice-read-if2 : tie.Need-shared-slice-read-if2
 shared-slice-read-if2 c = search needs
@@ -40,10 +38,10 @@ plus-of-requires : tie.Need-plus-of-requires
 plus-of-requires c κs = subst (Below 1000000000) (sym (c .number2 .ensures)) (number-below (c .before .before .before .before .before .args .f .now))
 
 returns-2 : tie.Need-returns-2
-returns-2 c = rw (eq-eqb _ _ (c .before .before .before .if2 .taken)) (c .minus-of .ensures ∙ ap minus (c .before .number .ensures ∙ ap numberOf (tail-all (c .before .before .before .before .before .before .before .args .f .now) 1)))
+returns-2 c = c .minus-of .ensures ∙ signed-minus (c .before .before .before .before .before .before .before .args .f .now) (c .before .before .before .if2 .taken) (c .before .number .ensures)
 
 returns-3 : tie.Need-returns-3
-returns-3 c = rw (ne-eqb _ _ (c .before .before .if2 .left)) (c .plus-of .ensures ∙ ap plus (c .before .number2 .ensures))
+returns-3 c = c .plus-of .ensures ∙ signed-plus (c .before .before .before .before .before .before .args .f .now) (c .before .before .if2 .left) (c .before .number2 .ensures)
 
 pub signed-spec : {M : Type 1} → statement M
 signed-spec =

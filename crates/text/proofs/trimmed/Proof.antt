@@ -1,13 +1,12 @@
-use Prim.Native.Nat.{_-_}
-use lib.ListN.{length-take, List·getD-eq-default, length}
+use lib.ListN.{length-take}
 use native.Mathlib.Omega.{arith}
 use borrow.Author.Needs.{needs}
-use borrow.Author.Tests.{eq-eqb, ne-eqb}
+use Rattle.text.proofs.Laws.{trim-empty, trim-cr, trim-other}
 use Rattle.text.proofs.trimmed.Statement.{statement}
 use Rattle.text.proofs.trimmed.Tie as tie
 
 returns : tie.Need-returns
-returns c = rw (List·getD-eq-default (c .before .args .line .now) 0 {n = length (c .before .args .line .now) - 1} (search needs))
+returns c = trim-empty (c .before .args .line .now) (c .if1 .taken)
 
 sub-if2 : tie.Need-sub-if2
 sub-if2 c = search needs
@@ -22,10 +21,10 @@ slice-aggregate-result : tie.Need-slice-aggregate-result
 slice-aggregate-result c = simp length-take (omega arith)
 
 returns-2 : tie.Need-returns-2
-returns-2 c = rw (eq-eqb _ _ (c .before .if2 .taken))
+returns-2 c = trim-cr (c .before .before .before .before .args .line .now) (c .before .if2 .taken)
 
 returns-3 : tie.Need-returns-3
-returns-3 c = rw (ne-eqb _ _ (c .if2 .left))
+returns-3 c = trim-other (c .before .before .before .args .line .now) (c .if2 .left)
 
 pub trimmed-spec : {M : Type 1} → statement M
 trimmed-spec =
