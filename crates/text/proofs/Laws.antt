@@ -140,27 +140,25 @@ pub fields-word : (b : ℕ) (bs : List ℕ) → isBlank b ≡ false → fields (
 fields-word b [] e = rw e
 fields-word b (c ∷ cs) e = word-by b c cs (isBlank c) e refl (fields-word c cs)
 
-first-by : (b : ℕ) (bs : List ℕ) (t : Bool) → isBlank b ≡ t → take (run isInk (lead bs)) (lead bs) ≡ first (fields bs)
-    → take (run isInk (lead (b ∷ bs))) (lead (b ∷ bs)) ≡ first (fields (b ∷ bs))
-first-by b bs true e h = rw e h
-first-by b bs false e h =
+-- past the blanks stands the next field, and behind it the others
+abbrev Parted : List ℕ → Type 0
+Parted xs = (take (run isInk (lead xs)) (lead xs) ≡ first (fields xs)) × (fields (drop (run isInk (lead xs)) (lead xs)) ≡ others (fields xs))
+
+parted-by : (b : ℕ) (bs : List ℕ) (t : Bool) → isBlank b ≡ t → Parted bs → Parted (b ∷ bs)
+parted-by b bs true e h = rw e h
+parted-by b bs false e h =
     let l : lead (b ∷ bs) ≡ b ∷ bs = rw e in
-    rw l (sym (ap first (fields-word b bs e)))
+    rw l (sym (ap first (fields-word b bs e)), sym (ap others (fields-word b bs e)))
+
+parted : (xs : List ℕ) → Parted xs
+parted [] = (refl, refl)
+parted (b ∷ bs) = parted-by b bs (isBlank b) refl (parted bs)
 
 pub word-first : (xs : List ℕ) → take (run isInk (lead xs)) (lead xs) ≡ first (fields xs)
-word-first [] = refl
-word-first (b ∷ bs) = first-by b bs (isBlank b) refl (word-first bs)
-
-others-by : (b : ℕ) (bs : List ℕ) (t : Bool) → isBlank b ≡ t → fields (drop (run isInk (lead bs)) (lead bs)) ≡ others (fields bs)
-    → fields (drop (run isInk (lead (b ∷ bs))) (lead (b ∷ bs))) ≡ others (fields (b ∷ bs))
-others-by b bs true e h = rw e h
-others-by b bs false e h =
-    let l : lead (b ∷ bs) ≡ b ∷ bs = rw e in
-    rw l (sym (ap others (fields-word b bs e)))
+word-first xs = parted xs .0
 
 pub word-others : (xs : List ℕ) → fields (drop (run isInk (lead xs)) (lead xs)) ≡ others (fields xs)
-word-others [] = refl
-word-others (b ∷ bs) = others-by b bs (isBlank b) refl (word-others bs)
+word-others xs = parted xs .1
 
 none-by : (b : ℕ) (bs : List ℕ) (t : Bool) → isBlank b ≡ t → eqb (run isBlank bs) (length bs) ≡ none (fields bs)
     → eqb (run isBlank (b ∷ bs)) (length (b ∷ bs)) ≡ none (fields (b ∷ bs))
