@@ -1,14 +1,13 @@
 -- Arcs that are alike have the same lists and routes: the least among parallel arcs, and the same arcs in another order.
-use mathlib.Core.Path.{_≡_, refl, sym, ap, subst, _∙_}
-use mathlib.Core.Logic.{_⊎_, inl, inr, _↔_}
+use mathlib.Core.Logic.{_↔_}
 use mathlib.Core.Bool.{Bool}
-use mathlib.Core.List.{List, [], _∷_}
-use Prim.Native.Nat.{ℕ, _+_, _≤_}
+use mathlib.Core.List.{List}
+use Prim.Native.Nat.{ℕ, _+_}
 use native.Mathlib.Omega.{arith}
 use lib.Dec.{T}
 use Rattle.meaning.specs.Region.{Region, ArcOf, LeastArc}
 use Rattle.meaning.specs.Walk.{Walk, here, step, Shortest}
-use Rattle.meaning.specs.Route.{Gives, Lowest, RouteTo, at-query, from}
+use Rattle.meaning.specs.Route.{Gives, RouteTo, at-query, from}
 use Rattle.meaning.specs.Listing.{Stop, Right, Listing}
 use Rattle.meaning.proofs.Listings.{all-map}
 use Rattle.meaning.proofs.Parallel.{any-walk, shortest-same}

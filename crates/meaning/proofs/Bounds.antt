@@ -1,25 +1,25 @@
 -- How the search came to a state, how long its lengths are, and demand 3's last sentence.
-use mathlib.Core.Path.{_≡_, refl, sym, ap, subst, _∙_}
+use mathlib.Core.Path.{_≡_, refl, sym, ap, _∙_}
 use mathlib.Core.Logic.{_⊎_, inl, inr, _≢_}
-use mathlib.Core.Bool.{Bool, true, false, not, _||_, _&&_, cond}
+use mathlib.Core.Bool.{Bool, true, false, not, cond}
 use mathlib.Core.Option.{Option, none, some}
 use mathlib.Core.List.{List, [], _∷_, _++_}
-use Prim.Native.Nat.{ℕ, zero, suc, _+_, _-_, _*_, _≤_, _<_}
+use Prim.Native.Nat.{ℕ, zero, suc, _+_, _*_, _≤_, _<_}
 use native.Mathlib.Omega.{arith}
 use lib.Dec.{T, T-not, not-T, leb, le→leb}
-use lib.ListN.{length, getD, length-append}
+use lib.ListN.{length, length-append}
 use Rattle.meaning.specs.Region.{Region, ArcOf, isSite}
-use Rattle.meaning.specs.Scan.{any, first}
+use Rattle.meaning.specs.Scan.{any}
 use Rattle.meaning.specs.Taking.{State, memb, taken, lenAt, keyIn, isOpen, aimed, sitesOf, mark, take1, takeAt, start, choose, full, next, after, final, toSites}
 use Rattle.meaning.specs.Walk.{Walk, Shortest}
-use Rattle.meaning.proofs.Bools.{T-true, T-false, decT, and-both, and-make, or-cases, or-left, nor-both}
+use Rattle.meaning.proofs.Bools.{decT, and-both, and-make, or-cases, or-left, nor-both}
 use Rattle.meaning.proofs.Estimates.{Measure, sites-estimate, sites-under}
-use Rattle.meaning.proofs.Exits.{shortest-unique, Picked, picked-under, picked-shortest}
-use Rattle.meaning.proofs.Listed.{Listed, snoc-new, memb-snoc, TheList, Earlier, earlier-asym, sites-in, sites-of, taken-else, final-list, final-stopped, listed-after, long, aims, sh}
+use Rattle.meaning.proofs.Exits.{shortest-unique, Picked, picked-under}
+use Rattle.meaning.proofs.Listed.{Listed, snoc-new, memb-snoc, Earlier, sites-of, taken-else, listed-after, long, aims, sh}
 use Rattle.meaning.proofs.Orders.{Asc, memb-cases}
 use Rattle.meaning.proofs.Relaxing.{Valid, Estimate, aimed-site, relaxTo-all}
 use Rattle.meaning.proofs.Scans.{cond-false, any-of, any-is, First, IsFirst, first-is}
-use Rattle.meaning.proofs.States.{Has, Inv, start-zero, picked, taken-cons, taken-new, taken-old}
+use Rattle.meaning.proofs.States.{Has, start-zero, picked, taken-cons, taken-new, taken-old}
 
 not-not : (b : Bool) → T (not (not b)) → T b
 not-not true t = tt

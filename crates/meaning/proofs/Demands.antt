@@ -2,8 +2,8 @@
 use mathlib.Core.Path.{_≡_, refl, sym, ap, subst, _∙_}
 use mathlib.Core.Logic.{_≢_}
 use mathlib.Core.Bool.{Bool}
-use mathlib.Core.List.{List, [], _∷_, _++_, map}
-use Prim.Native.Nat.{ℕ, zero, suc, _+_, _-_, _*_, _^_, _≤_, _<_}
+use mathlib.Core.List.{List, [], _∷_, _++_}
+use Prim.Native.Nat.{ℕ, suc, _+_, _-_, _*_, _^_, _≤_, _<_}
 use native.Mathlib.Nat.{mul-le-mul-right}
 use native.Mathlib.Omega.{arith}
 use lib.Dec.{T}
@@ -11,25 +11,24 @@ use lib.ListN.{length, length-append, length-map}
 use Rattle.meaning.specs.declared.Limits.{Limits}
 use Rattle.meaning.specs.Limits.{base}
 use Rattle.meaning.specs.Straight.{straight}
-use Rattle.meaning.specs.Region.{Tables, Rooms, Region, regionOf, xAt, yAt, ArcOf, LeastArc, isSite}
+use Rattle.meaning.specs.Region.{Tables, Rooms, regionOf, xAt, yAt, ArcOf, LeastArc, isSite}
 use Rattle.meaning.specs.Walk.{Walk, Shortest}
-use Rattle.meaning.specs.Taking.{State, memb, taken, lenAt, sitesOf, next, after, final, takenCount}
+use Rattle.meaning.specs.Taking.{taken, lenAt, sitesOf, next, after, final, takenCount}
 use Rattle.meaning.specs.Route.{Gives}
 use Rattle.meaning.specs.Listing.{Stop, All, Right, Listing}
 use Rattle.meaning.specs.Search.{aimOf, backToBack}
 use Rattle.meaning.proofs.Counting.{count, count-le}
 use Rattle.meaning.proofs.Exits.{one, join, shortest-unique, shortest-front}
-use Rattle.meaning.proofs.Relaxing.{Valid, Estimate}
+use Rattle.meaning.proofs.Relaxing.{Estimate}
 use Rattle.meaning.proofs.States.{Has}
-use Rattle.meaning.proofs.Orders.{Asc, asc-fits}
+use Rattle.meaning.proofs.Orders.{Asc}
 use Rattle.meaning.proofs.Estimates.{straight-measure}
 use Rattle.meaning.proofs.Listed.{Listed, listed-after, final-stopped, stays}
-use Rattle.meaning.proofs.Trace.{listOf, stops}
+use Rattle.meaning.proofs.Trace.{listOf}
 use Rattle.meaning.proofs.Routes.{route-fits}
 use Rattle.meaning.proofs.Bounds.{Came, came-after, came-once, lens, within-last}
 use Rattle.meaning.proofs.Parallel.{any-walk, shortest-same}
 use Rattle.meaning.proofs.Listings.{nodes, nodes-stops, all-map, listing-unique, list-right}
-use Rattle.meaning.proofs.Alike.{least-alike}
 use Rattle.meaning.proofs.Passed.{Sound, sound-valid, sound-weights, sound-long, sound-query}
 use Rattle.meaning.proofs.Outcomes.{aim-fits, list-fits}
 

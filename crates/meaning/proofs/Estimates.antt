@@ -1,20 +1,18 @@
 -- Where test 10 passes, the straight line rounded down gives a consistent estimate.
-use mathlib.Core.Path.{_≡_, refl, sym, ap, subst, _∙_}
-use mathlib.Core.Logic.{_⊎_, inl, inr}
-use mathlib.Core.Bool.{Bool, true, false, not, cond, _||_, _&&_}
+use mathlib.Core.Path.{_≡_, refl, _∙_}
+use mathlib.Core.Bool.{Bool, true, false, not, cond}
 use mathlib.Core.Option.{Option, none, some}
 use Prim.Native.Nat.{ℕ, zero, suc, _+_, _-_, _*_, _≤_, _<_}
 use native.Mathlib.Omega.{arith}
 use lib.Dec.{T, eqb, eqb→eq, ltb, ltb→lt, nltb→le}
-use lib.IntN.{ℤ, pos, negsuc, natAbs, subℕ, _-ℤ_}
+use lib.IntN.{ℤ, pos, negsuc, natAbs, subℕ}
 use Rattle.meaning.specs.Region.{Region, ArcOf, isSite}
 use Rattle.meaning.specs.Scan.{first}
 use Rattle.meaning.specs.Straight.{gap, root, rootTo, squares, straight}
 use Rattle.meaning.specs.Taking.{leastAt, toSites}
-use Rattle.meaning.proofs.Exits.{Consistent}
 use Rattle.meaning.proofs.Relaxing.{Estimate}
 use Rattle.meaning.proofs.Roots.{root-floor, floor-triangle}
-use Rattle.meaning.proofs.Scans.{First, IsFirst, first-is, any-is}
+use Rattle.meaning.proofs.Scans.{IsFirst, first-is, any-is}
 
 -- how far two whole numbers, and two coordinates, are apart, by cases
 abbrev far : ℕ → ℕ → ℕ

@@ -1,16 +1,16 @@
 -- Walks over any arc relation, the shortest length, and what a best-first search with a consistent estimate may conclude. No lists and no
 -- tables: `Arc u v w` is any relation, `Has v d` "v is seen at length d", `tk v` "v is taken", `h` the estimate at the present site set.
 use mathlib.Core.Path.{_≡_, refl, sym, ap, subst}
-use mathlib.Core.Logic.{_⊎_, inl, inr, _≢_}
+use mathlib.Core.Logic.{_⊎_, inl, inr}
 use mathlib.Core.Bool.{Bool, true, false, not}
-use Prim.Native.Nat.{ℕ, zero, suc, _+_, _*_, _≤_, _<_}
-use native.Mathlib.Nat.{le-refl, le-antisymm, add-assoc, add-zero, zero-add}
+use Prim.Native.Nat.{ℕ, _+_, _≤_, _<_}
+use native.Mathlib.Nat.{le-antisymm, add-assoc, add-zero, zero-add}
 use native.Mathlib.Decide.{decLt}
 use native.Mathlib.Omega.{arith}
 use lib.Dec.{T, T-not}
 use Rattle.meaning.specs.Walk.{Walk, here, step, Shortest}
 use Rattle.meaning.specs.Taking.{bit, key}
-use Rattle.meaning.proofs.Bools.{T-true, T-false, decT}
+use Rattle.meaning.proofs.Bools.{T-true}
 
 module _ {Arc : ℕ → ℕ → ℕ → Type 0} where
   pub walk-to : {q v d e : ℕ} → d ≡ e → Walk Arc q v d → Walk Arc q v e

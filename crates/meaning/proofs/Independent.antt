@@ -3,11 +3,10 @@ use mathlib.Core.Path.{_≡_, refl, sym, ap, subst, _∙_}
 use mathlib.Core.Logic.{_↔_}
 use mathlib.Core.List.{List}
 use Prim.Native.Nat.{ℕ, _-_, _<_}
-use lib.Dec.{T, eqb, eqb→eq, eqb-refl}
+use lib.Dec.{T, eqb}
 use lib.ListN.{getD}
 use Rattle.meaning.specs.declared.Answer.{Answer}
-use Rattle.meaning.specs.Scan.{any}
-use Rattle.meaning.specs.Region.{Tables, Rooms, Region, regionOf, ArcOf, LeastArc, isSite}
+use Rattle.meaning.specs.Region.{Tables, Rooms, regionOf, ArcOf, LeastArc, isSite}
 use Rattle.meaning.specs.Listing.{Stop, Listing}
 use Rattle.meaning.specs.Search.{filled, Found}
 use Rattle.meaning.proofs.Scans.{any-of, any-is}

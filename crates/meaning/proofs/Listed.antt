@@ -1,23 +1,23 @@
 -- The sites that the search takes are the first k of those reached, by shortest length and then node number.
-use mathlib.Core.Path.{_≡_, refl, sym, ap, subst, _∙_}
-use mathlib.Core.Logic.{_⊎_, inl, inr, _≢_}
-use mathlib.Core.Bool.{Bool, true, false, not, _||_, _&&_, cond}
+use mathlib.Core.Path.{_≡_, refl, sym, ap, _∙_}
+use mathlib.Core.Logic.{_⊎_, inl, inr}
+use mathlib.Core.Bool.{Bool, true, false, not, _||_, cond}
 use mathlib.Core.Option.{Option, none, some}
 use mathlib.Core.List.{List, [], _∷_, _++_}
-use Prim.Native.Nat.{ℕ, zero, suc, _+_, _-_, _*_, _≤_, _<_}
-use native.Mathlib.Decide.{decLt, ℕ-discrete}
+use Prim.Native.Nat.{ℕ, zero, suc, _+_, _≤_, _<_}
+use native.Mathlib.Decide.{decLt}
 use native.Mathlib.Omega.{arith}
-use lib.Dec.{T, T-not, not-T, eqb, leb, ltb, eqb→eq, eqb-refl, ltb→lt, lt→ltb, leb→le, nleb→lt}
+use lib.Dec.{T, T-not, not-T, eqb, leb, ltb, eqb→eq, leb→le, nleb→lt}
 use lib.ListN.{length, getD, length-append}
 use Rattle.meaning.specs.Region.{Region, ArcOf, isSite}
 use Rattle.meaning.specs.Scan.{any, first}
 use Rattle.meaning.specs.Listing.{Before}
-use Rattle.meaning.specs.Taking.{key, State, memb, taken, lenAt, keyIn, isOpen, aimed, sitesOf, mark, take1, takeAt, start, choose, full, next, after, final}
+use Rattle.meaning.specs.Taking.{State, memb, taken, lenAt, keyIn, isOpen, aimed, sitesOf, mark, take1, takeAt, start, choose, full, next, after, final}
 use Rattle.meaning.specs.Walk.{Walk, Shortest}
-use Rattle.meaning.proofs.Bools.{T-true, T-false, true-T, decT, and-both, and-make, nand-cases, or-cases, or-left, or-right, nor-both}
+use Rattle.meaning.proofs.Bools.{T-true, T-false, true-T, and-both, and-make, or-cases, nor-both}
 use Rattle.meaning.proofs.Counting.{count, count-more, count-full, count-none}
-use Rattle.meaning.proofs.Exits.{Known, Picked, Consistent, Exit, exit, picked-shortest, picked-first, before-taken, still, shortest-unique}
-use Rattle.meaning.proofs.Orders.{Asc, FirstK, memb-head, memb-tail, memb-cases, memb-not}
+use Rattle.meaning.proofs.Exits.{Picked, Exit, exit, picked-shortest, picked-first, before-taken, still, shortest-unique}
+use Rattle.meaning.proofs.Orders.{Asc, FirstK, memb-head, memb-tail, memb-cases}
 use Rattle.meaning.proofs.Relaxing.{Valid, Estimate, aimed-site}
 use Rattle.meaning.proofs.Scans.{any-of, any-is, First, IsFirst, first-is}
 use Rattle.meaning.proofs.States.{Has, Inv, inv-start, inv-take, picked, taken-cons, taken-new, taken-old, open-of, has-below}

@@ -1,9 +1,9 @@
 -- The list: no second one fits, a longer one begins with it, and the search's own list is one.
 use mathlib.Core.Path.{_≡_, refl, sym, ap, subst, _∙_}
 use mathlib.Core.Logic.{_⊎_, inl, inr, _≢_, _↔_}
-use mathlib.Core.Bool.{Bool, true, false, not}
+use mathlib.Core.Bool.{Bool, not}
 use mathlib.Core.List.{List, [], _∷_, map}
-use Prim.Native.Nat.{ℕ, zero, suc, _-_, _≤_, _<_}
+use Prim.Native.Nat.{ℕ, _≤_, _<_}
 use native.Mathlib.Decide.{decLt}
 use native.Mathlib.Omega.{arith}
 use lib.Dec.{T, T-not, not-T}
@@ -11,7 +11,6 @@ use lib.ListN.{length, length-map}
 use Rattle.meaning.specs.Region.{Region, ArcOf, isSite}
 use Rattle.meaning.specs.Walk.{Walk, Shortest}
 use Rattle.meaning.specs.Taking.{State, memb, taken, lenAt, sitesOf, final}
-use Rattle.meaning.specs.Route.{RouteTo}
 use Rattle.meaning.specs.Listing.{Stop, Before, All, Ordered, Right, Listing}
 use Rattle.meaning.proofs.Bools.{decT}
 use Rattle.meaning.proofs.Exits.{shortest-unique}

@@ -2,7 +2,7 @@
 use mathlib.Core.Path.{_≡_, refl, sym, ap, _∙_}
 use mathlib.Core.Bool.{Bool}
 use mathlib.Core.List.{List}
-use Prim.Native.Nat.{ℕ, _-_, _≤_, _<_}
+use Prim.Native.Nat.{ℕ, _-_}
 use lib.ListN.{length}
 use Rattle.meaning.specs.declared.Limits.{Limits}
 use Rattle.meaning.specs.declared.Verdict.{Verdict}
@@ -14,7 +14,7 @@ use Rattle.meaning.specs.Region.{Tables, Rooms, regionOf, xAt, yAt, Leas
 use Rattle.meaning.specs.Taking.{takenCount}
 use Rattle.meaning.specs.Listing.{Stop, Listing}
 use Rattle.meaning.specs.Checks.{inspect}
-use Rattle.meaning.specs.Search.{filled, aimOf, Found, Kept, judged, Searched}
+use Rattle.meaning.specs.Search.{filled, aimOf, judged, Searched}
 use Rattle.meaning.proofs.Relaxing.{Estimate}
 use Rattle.meaning.proofs.Estimates.{sites-estimate, straight-measure}
 use Rattle.meaning.proofs.Trace.{listOf}

@@ -1,10 +1,9 @@
 -- 01's walk: the length is the sum of the least weights among the parallel arcs used. Shortest lengths are the same as over all arcs.
-use mathlib.Core.Path.{_≡_, refl, sym, ap, subst, _∙_}
-use mathlib.Core.Logic.{_⊎_, inl, inr, _↔_}
-use mathlib.Core.Bool.{Bool, true, false, not, _||_, _&&_}
+use mathlib.Core.Path.{refl}
+use mathlib.Core.Logic.{_↔_}
+use mathlib.Core.Bool.{Bool, _&&_}
 use mathlib.Core.Option.{Option, none, some}
-use Prim.Native.Nat.{ℕ, zero, suc, _+_, _≤_, _<_}
-use native.Mathlib.Nat.{le-antisymm}
+use Prim.Native.Nat.{ℕ, _+_, _≤_}
 use native.Mathlib.Omega.{arith}
 use lib.Dec.{T, eqb, eqb→eq, eqb-refl}
 use Rattle.meaning.specs.Region.{Region, ArcOf, LeastArc}
@@ -12,7 +11,7 @@ use Rattle.meaning.specs.Scan.{first}
 use Rattle.meaning.specs.Walk.{Walk, here, step, Shortest}
 use Rattle.meaning.proofs.Bools.{and-both, and-make}
 use Rattle.meaning.proofs.Exits.{walk-to}
-use Rattle.meaning.proofs.Scans.{First, IsFirst, first-is}
+use Rattle.meaning.proofs.Scans.{IsFirst, first-is}
 
 module _ (R : Region) where
   abbrev joins : ℕ → ℕ → ℕ → Bool

@@ -1,23 +1,21 @@
 -- What the search's checks make sure of: an accepted region.
-use mathlib.Core.Path.{_≡_, refl, sym, ap, subst, _∙_}
-use mathlib.Core.Logic.{_⊎_, inl, inr}
+use mathlib.Core.Path.{_≡_, refl, ap, subst, _∙_}
 use mathlib.Core.Bool.{Bool, true, false, not, cond, _&&_}
-use mathlib.Core.List.{List}
 use Prim.Native.Nat.{ℕ, zero, suc, _+_, _-_, _*_, _≤_, _<_}
 use native.Mathlib.Decide.{decLt}
 use native.Mathlib.Omega.{arith}
 use lib.Dec.{T, T-not, leb, eqb, leb→le, eqb→eq, eqb-refl}
 use lib.IntN.{natAbs}
-use lib.ListN.{length, getD}
+use lib.ListN.{getD}
 use Rattle.meaning.specs.declared.Limits.{Limits}
 use Rattle.meaning.specs.declared.Verdict.{Verdict}
 use Rattle.meaning.specs.declared.Verdict.the-variants.{Fine, Faulty}
 use Rattle.meaning.specs.Files.{within, isWeight, isCoordinate}
 use Rattle.meaning.specs.Scan.{any}
 use Rattle.meaning.specs.Straight.{squares, longEnough}
-use Rattle.meaning.specs.Region.{Tables, Rooms, Region, regionOf, xAt, yAt}
+use Rattle.meaning.specs.Region.{Tables, Rooms, regionOf, xAt, yAt}
 use Rattle.meaning.specs.Checks.{need, andThen, firstFault, countsFit, tablesFit, roomsFit, pointFault, arcFault, siteFault, inspect}
-use Rattle.meaning.proofs.Bools.{decT, and-both}
+use Rattle.meaning.proofs.Bools.{and-both}
 use Rattle.meaning.proofs.Scans.{any-of}
 use Rattle.meaning.proofs.Relaxing.{Valid}
 use Rattle.meaning.proofs.Estimates.{Long}

@@ -1,9 +1,9 @@
 -- What looking at the arcs of a taken node does to the lengths.
-use mathlib.Core.Path.{_≡_, refl, sym, ap, subst, _∙_}
-use mathlib.Core.Logic.{_⊎_, inl, inr, _≢_}
-use mathlib.Core.Bool.{Bool, true, false, not, _||_, _&&_, cond}
-use mathlib.Core.List.{List, [], _∷_}
-use Prim.Native.Nat.{ℕ, zero, suc, pred, _+_, _*_, _≤_, _<_, min}
+use mathlib.Core.Path.{_≡_, refl, sym, _∙_}
+use mathlib.Core.Logic.{_⊎_, inl, inr}
+use mathlib.Core.Bool.{Bool, true, false, not, cond}
+use mathlib.Core.List.{List}
+use Prim.Native.Nat.{ℕ, zero, suc, _+_, _≤_, _<_, min}
 use native.Mathlib.Decide.{decLt, ℕ-discrete}
 use native.Mathlib.Omega.{arith}
 use lib.Dec.{T, T-not, eqb, eqb→eq, eqb-refl}
@@ -12,7 +12,7 @@ use lib.Seq.{getD-set-same, getD-set-other}
 use Rattle.meaning.specs.Region.{Region, ArcOf, isSite}
 use Rattle.meaning.specs.Taking.{State, aimed, taken, lower, looks, relax, relaxTo}
 use Rattle.meaning.specs.Walk.{Walk, step}
-use Rattle.meaning.proofs.Bools.{T-true, T-false, decT, and-both, and-make, nand-cases}
+use Rattle.meaning.proofs.Bools.{T-true, T-false, decT, and-both, and-make}
 use Rattle.meaning.proofs.Exits.{Consistent}
 
 -- what a reader or the search's own checks make sure of

@@ -1,21 +1,20 @@
 -- The route, stepping backwards: at most one list is it, it fits into n entries, and the search's lengths give it.
 use mathlib.Core.Path.{_≡_, refl, sym, ap, subst, _∙_}
-use mathlib.Core.Logic.{_⊎_, inl, inr, _≢_}
-use mathlib.Core.Bool.{Bool, true, false, not, _||_, _&&_}
+use mathlib.Core.Logic.{_⊎_, inl, inr}
+use mathlib.Core.Bool.{Bool, _&&_}
 use mathlib.Core.Option.{Option, none, some}
 use mathlib.Core.List.{List, [], _∷_, _++_, append-assoc, append-nil}
-use Prim.Native.Nat.{ℕ, zero, suc, _+_, _-_, _*_, _≤_, _<_}
-use native.Mathlib.Decide.{decLt, ℕ-discrete}
+use Prim.Native.Nat.{ℕ, zero, suc, _+_, _≤_, _<_}
 use native.Mathlib.Omega.{arith}
-use lib.Dec.{T, T-not, not-T, eqb, eqb→eq, eqb-refl}
-use lib.ListN.{length, getD, length-append}
+use lib.Dec.{T, eqb, eqb→eq, eqb-refl}
+use lib.ListN.{length}
 use Rattle.meaning.specs.Region.{Region, ArcOf, isSite}
 use Rattle.meaning.specs.Route.{Gives, Lowest, RouteTo, at-query, from}
-use Rattle.meaning.specs.Scan.{any, first}
+use Rattle.meaning.specs.Scan.{any}
 use Rattle.meaning.specs.Taking.{State, memb, taken, lenAt}
 use Rattle.meaning.specs.Walk.{Walk, here, step, Shortest}
-use Rattle.meaning.proofs.Bools.{decT, and-both, and-make}
-use Rattle.meaning.proofs.Exits.{one, join, shortest-unique, shortest-front, walk-to}
+use Rattle.meaning.proofs.Bools.{and-both, and-make}
+use Rattle.meaning.proofs.Exits.{one, join, shortest-unique, shortest-front}
 use Rattle.meaning.proofs.Listed.{Listed, memb-snoc, asc-snoc}
 use Rattle.meaning.proofs.Orders.{Asc, asc-fits, memb-cases}
 use Rattle.meaning.proofs.Relaxing.{Valid}

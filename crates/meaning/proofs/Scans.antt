@@ -1,14 +1,14 @@
 -- What the scans of 0 to n-1 find.
-use mathlib.Core.Path.{_≡_, refl, sym, ap, subst}
-use mathlib.Core.Logic.{_⊎_, inl, inr, _≢_}
-use mathlib.Core.Bool.{Bool, true, false, not, _||_, _&&_, cond}
+use mathlib.Core.Path.{_≡_, ap, subst}
+use mathlib.Core.Logic.{_⊎_, inl, inr}
+use mathlib.Core.Bool.{Bool, true, false, not, _||_, cond}
 use mathlib.Core.Option.{Option, none, some}
-use Prim.Native.Nat.{ℕ, zero, suc, _+_, _*_, _≤_, _<_}
+use Prim.Native.Nat.{ℕ, zero, suc, _≤_, _<_}
 use native.Mathlib.Decide.{decLt}
 use native.Mathlib.Omega.{arith}
 use Rattle.meaning.specs.Scan.{any, better, first}
-use Rattle.meaning.proofs.Bools.{T-true, T-false, or-left, or-right, or-cases, decT}
-use lib.Dec.{T, T-not, leb, ltb, eqb, ltb→lt, nltb→le}
+use Rattle.meaning.proofs.Bools.{T-true, T-false, or-left, or-right, or-cases}
+use lib.Dec.{T, T-not, ltb, ltb→lt, nltb→le}
 
 pub cond-true : {A : Type 0} (b : Bool) → T b → (x y : A) → cond b x y ≡ x
 cond-true b t x y = ap (λ c. cond c x y) (T-true b t)

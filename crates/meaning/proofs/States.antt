@@ -1,21 +1,20 @@
 -- Every state of the search knows what `Walk.Known` says.
-use mathlib.Core.Path.{_≡_, refl, sym, ap, subst, _∙_}
-use mathlib.Core.Logic.{_⊎_, inl, inr, _≢_}
-use mathlib.Core.Bool.{Bool, true, false, not, _||_, _&&_}
+use mathlib.Core.Path.{_≡_, sym, _∙_}
+use mathlib.Core.Logic.{_⊎_, inl, inr}
+use mathlib.Core.Bool.{Bool, true, false, not}
 use mathlib.Core.Option.{Option, none, some}
-use mathlib.Core.List.{List, [], _∷_}
-use Prim.Native.Nat.{ℕ, zero, suc, _+_, _-_, _*_, _≤_, _<_}
+use mathlib.Core.List.{List, _∷_}
+use Prim.Native.Nat.{ℕ, zero, suc, _+_, _-_, _≤_, _<_}
 use native.Mathlib.Decide.{decLt, ℕ-discrete}
 use native.Mathlib.Omega.{arith}
-use lib.Dec.{T, T-not, eqb, ltb, eqb→eq, eqb-refl, ltb→lt, lt→ltb}
+use lib.Dec.{T, eqb, ltb, eqb→eq, eqb-refl, ltb→lt, lt→ltb}
 use lib.ListN.{length, getD, set, replicate, length-set, length-replicate, getD-replicate, List·getD-eq-default}
 use lib.Seq.{getD-set-same, getD-set-other}
 use Rattle.meaning.specs.Region.{Region, ArcOf, isSite}
-use Rattle.meaning.specs.Scan.{any, first}
 use Rattle.meaning.specs.Taking.{key, State, memb, taken, lenAt, keyIn, isOpen, aimed, mark, relaxTo, take1, takeAt, start, choose, full, next, after}
 use Rattle.meaning.specs.Walk.{Walk, here, step, Shortest}
-use Rattle.meaning.proofs.Bools.{T-true, T-false, decT, and-both, and-make, nand-cases, or-cases, or-left, or-right, nor-both}
-use Rattle.meaning.proofs.Exits.{Known, Picked, Consistent, picked-shortest}
+use Rattle.meaning.proofs.Bools.{decT, and-both, and-make, or-cases, or-left, or-right}
+use Rattle.meaning.proofs.Exits.{Known, Picked, picked-shortest}
 use Rattle.meaning.proofs.Relaxing.{Valid, Estimate, aimed-site, Within, within-has, relaxTo-length, relaxTo-keeps, relaxTo-taken, relaxTo-hits, relaxTo-sound}
 use Rattle.meaning.proofs.Scans.{First, IsFirst, first-is}
 

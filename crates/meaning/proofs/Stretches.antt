@@ -1,16 +1,14 @@
 -- "A listed route is shown as the very stretch of the route buffer where it was written": the stretch of a rank is that line's route.
-use mathlib.Core.Path.{_≡_, refl, sym, ap, subst, _∙_}
-use mathlib.Core.Bool.{Bool, true, false, cond, _&&_}
+use mathlib.Core.Path.{_≡_, refl, sym, ap, _∙_}
 use mathlib.Core.List.{List, [], _∷_, _++_, map, append-assoc}
-use Prim.Native.Nat.{ℕ, zero, suc, _+_, _-_, _≤_, _<_}
+use Prim.Native.Nat.{ℕ, suc, _+_, _-_, _≤_}
 use native.Mathlib.Nat.{zero-add}
 use native.Mathlib.Omega.{arith}
 use borrow.Author.Tests.{le-leb, lt-leb}
-use lib.Dec.{leb}
 use lib.ListN.{length, getD, take, drop, length-append, length-map}
 use lib.Seq.{drop-at, take-at}
 use Rattle.meaning.specs.Listing.{Stop}
-use Rattle.meaning.specs.Search.{over, backToBack, endsAfter, beginOf, between, stretch}
+use Rattle.meaning.specs.Search.{over, backToBack, endsAfter, beginOf, stretch}
 
 -- no second stretch fits
 pub stretch-unique : (routes ends : List ℕ) (rank : ℕ) (part₁ part₂ : List ℕ) → part₁ ≡ stretch routes ends rank → part₂ ≡ stretch routes ends rank → part₁ ≡ part₂

@@ -1,5 +1,5 @@
 -- The reading of a text: a fold over its lines, one for the three texts, and what it leaves in the lent tables.
-use Prim.Native.Nat.{ℕ, zero, suc, _-_, min}
+use Prim.Native.Nat.{ℕ, suc, _-_, min}
 use mathlib.Core.List.{List, [], _∷_, _++_, map}
 use mathlib.Core.Bool.{Bool, true, false, cond, _&&_, _||_}
 use mathlib.Core.Path.{_≡_}

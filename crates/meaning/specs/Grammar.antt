@@ -1,7 +1,7 @@
 -- What a line of each of the three texts says, by its fields.
 use Prim.Native.Nat.{ℕ}
 use mathlib.Core.List.{List, [], _∷_}
-use mathlib.Core.Bool.{Bool, true, false, cond, _&&_, _||_}
+use mathlib.Core.Bool.{cond, _&&_, _||_}
 use Rattle.meaning.specs.Text.{first, others, none, same, number, signed}
 use Rattle.meaning.specs.declared.Kind.{Kind}
 use Rattle.meaning.specs.declared.Kind.the-variants.{Graph, Coordinates, Sites}
@@ -9,8 +9,6 @@ use Rattle.meaning.specs.declared.Number.{Number}
 use Rattle.meaning.specs.declared.Number.the-variants.{Value, NoNumber}
 use Rattle.meaning.specs.declared.Signed.{Signed}
 use Rattle.meaning.specs.declared.Signed.the-variants.{At, NoCoordinate}
-use Rattle.meaning.specs.declared.Counts.{Counts}
-use Rattle.meaning.specs.declared.Entry.{Entry}
 use Rattle.meaning.specs.declared.Entry.the-variants.{Arc, Point, Site}
 use Rattle.meaning.specs.declared.Line.{Line}
 use Rattle.meaning.specs.declared.Line.the-variants.{Nothing, Problem, Data, Malformed}

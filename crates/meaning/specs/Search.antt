@@ -1,11 +1,11 @@
 -- The outcome of a search, of the panel call and of the call for a route's stretch: the answer, and every lent buffer at exit.
-use mathlib.Core.Bool.{Bool, true, false, cond, _&&_, _||_}
+use mathlib.Core.Bool.{Bool, cond, _&&_}
 use mathlib.Core.List.{List, [], _∷_, _++_, map}
 use mathlib.Core.Path.{_≡_}
-use Prim.Native.Nat.{ℕ, zero, suc, _+_, _-_, _*_}
-use lib.Dec.{leb, ltb, eqb}
+use Prim.Native.Nat.{ℕ, suc, _+_, _-_, _*_}
+use lib.Dec.{leb}
 use lib.ListN.{length, getD, take, drop, replicate}
-use Rattle.meaning.specs.Limits.{base, panelK}
+use Rattle.meaning.specs.Limits.{panelK}
 use Rattle.meaning.specs.Straight.{straight}
 use Rattle.meaning.specs.Region.{Tables, Rooms, regionOf, xAt, yAt, LeastArc, isSite}
 use Rattle.meaning.specs.Taking.{toSites, takenCount}

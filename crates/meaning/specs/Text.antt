@@ -1,10 +1,10 @@
 -- Lines, fields, words and numbers of a text, as functions of its bytes.
-use Prim.Native.Nat.{ℕ, zero, suc, _+_, _-_, _*_}
+use Prim.Native.Nat.{ℕ, _+_, _-_, _*_}
 use mathlib.Core.List.{List, [], _∷_}
 use mathlib.Core.Bool.{Bool, true, false, not, cond, _&&_, _||_}
 use lib.ListN.{length, getD, take, drop}
-use lib.Dec.{ltb, leb, eqb}
-use lib.IntN.{ℤ, pos, negℤ}
+use lib.Dec.{leb, eqb}
+use lib.IntN.{pos, negℤ}
 use Rattle.meaning.specs.declared.Number.{Number}
 use Rattle.meaning.specs.declared.Number.the-variants.{Value, NoNumber}
 use Rattle.meaning.specs.declared.Signed.{Signed}
