@@ -42,7 +42,3 @@ and-both false b t = absurd t
 pub and-make : (a b : Bool) → T a → T b → T (a && b)
 and-make true b s t = t
 and-make false b s t = absurd s
-
-pub nand-cases : (a b : Bool) → T (not (a && b)) → T (not a) ⊎ T (not b)
-nand-cases true b t = inr t
-nand-cases false b t = inl tt

@@ -128,11 +128,6 @@ module _ (R : Region) (ok : Valid R) (pos : (i : ℕ) → i < R .m → 1 ≤ R .
       pub len : ℕ
       pub short : Shortest (ArcOf R) q node len
       pub within : (v d : ℕ) → T (taken s v) → Shortest (ArcOf R) q v d → d + low v ≤ len
-      pub before : State
-      pub knows : Listed R q k before
-      pub picks : First (isOpen before) (keyIn R est before) (R .n) node
-      pub at : lenAt (before .best) node ≡ len
-      pub grows : (v : ℕ) → T (taken before v) → T (taken s v)
 
     pub last-of : {s : State} → Came s → T (full R k s) → (T (full R k (start R q)) → ⊥) → Last s
     unfolding take1 taken
@@ -144,11 +139,6 @@ module _ (R : Region) (ok : Valid R) (pos : (i : ℕ) → i < R .m → 1 ≤ R .
       len = lenAt (s .best) x;
       short = sh R ok pos est fits q k s L x F;
       within = λ v d t z. go v d z (taken-cons s x v t);
-      before = s;
-      knows = L;
-      picks = F;
-      at = refl;
-      grows = λ v t. taken-old s x v t;
     }
       where
         P : Picked (Has s) (taken s) (isSite R) (est (aimed R s)) x (lenAt (s .best) x)

@@ -1,15 +1,15 @@
--- The first k of some candidates in a strict order: at most one list is that (`unique`), and a longer one begins with it (`front`).
+-- The first k of some candidates in a strict order: at most one list is that.
 use mathlib.Core.Path.{_≡_, refl, sym, ap, _∙_}
 use mathlib.Core.Logic.{_⊎_, inl, inr}
 use mathlib.Core.Bool.{Bool, true, false, not, _||_}
 use mathlib.Core.List.{List, [], _∷_}
-use Prim.Native.Nat.{ℕ, zero, suc, _-_, _≤_, _<_}
+use Prim.Native.Nat.{ℕ, suc, _-_, _≤_, _<_}
 use native.Mathlib.Omega.{arith}
 use native.Mathlib.Decide.{ℕ-discrete}
 use lib.Dec.{T, T-not, eqb, eqb→eq, eqb-refl, not-T}
-use lib.ListN.{length, take, length-take}
+use lib.ListN.{length}
 use Rattle.meaning.specs.Taking.{memb}
-use Rattle.meaning.proofs.Bools.{T-true, T-false, decT, or-cases, or-left, or-right, nor-both}
+use Rattle.meaning.proofs.Bools.{T-true, T-false, decT, or-cases, or-left, or-right}
 use Rattle.meaning.proofs.Counting.{count, count-more, count-none, count-le}
 
 abbrev pub Asc : (ℕ → ℕ → Type 0) → List ℕ → Type 0
@@ -44,16 +44,6 @@ memb-not x y xs n t = not-T (memb y (x ∷ xs)) (λ z. go (memb-cases x y xs z))
     go : (x ≡ y) ⊎ T (memb y xs) → ⊥
     go (inl e) = n e
     go (inr z) = T-not (memb y xs) t z
-
-pub memb-take : (k y : ℕ) (L : List ℕ) → T (memb y (take k L)) → T (memb y L)
-unfolding memb
-memb-take zero y L t = absurd t
-memb-take (suc k) y [] t = absurd t
-memb-take (suc k) y (x ∷ xs) t = go (memb-cases x y (take k xs) t) (memb-take k y xs)
-  where
-    go : (x ≡ y) ⊎ T (memb y (take k xs)) → (T (memb y (take k xs)) → T (memb y xs)) → T (memb y (x ∷ xs))
-    go (inl e) ih = rw e (memb-head y xs)
-    go (inr z) ih = memb-tail x y xs (ih z)
 
 module _ (E : ℕ → ℕ → Type 0) where
   -- the head of a first-k list comes before any other candidate
@@ -94,52 +84,6 @@ module _ (E : ℕ → ℕ → Type 0) where
           let i = ih (tail-of (λ z. asym x x cx cx z z) F) (rw e (tail-of (λ z. asym y y cy cy z z) G)) in
           cc
       go (no n) ih = absurd (asym x y cx cy (before F cy n) (before G cx (λ e. n (sym e))))
-
-  -- ---- a shorter list is the front of a longer one
-  pub asc-take : (k : ℕ) (L : List ℕ) → Asc E L → Asc E (take k L)
-  asc-take zero L a = tt
-  asc-take (suc k) [] a = tt
-  asc-take (suc k) (x ∷ xs) a = (λ y t. a .0 y (memb-take k y xs t), asc-take k xs (a .1))
-
-  -- a member past the front: the front is k long, and all of it comes before
-  past : (k : ℕ) (L : List ℕ) → Asc E L → (v : ℕ) → T (memb v L) → T (not (memb v (take k L))) → (length (take k L) ≡ k) × ((x : ℕ) → T (memb x (take k L)) → E x v)
-  unfolding memb
-  past zero L a v t n = (refl, λ x z. absurd z)
-  past (suc k) [] a v t n = absurd t
-  past (suc k) (x ∷ xs) a v t n = go (memb-cases x v xs t) (nor-both (eqb x v) (memb v (take k xs)) n) (past k xs (a .1) v)
-    where
-      go : (x ≡ v) ⊎ T (memb v xs) → T (not (eqb x v)) × T (not (memb v (take k xs)))
-          → (T (memb v xs) → T (not (memb v (take k xs))) → (length (take k xs) ≡ k) × ((x : ℕ) → T (memb x (take k xs)) → E x v))
-          → (suc (length (take k xs)) ≡ suc k) × ((y : ℕ) → T (memb y (x ∷ take k xs)) → E y v)
-      go (inl e) m ih = absurd (T-not (eqb x v) (m .0) (rw e (eqb-refl v)))
-      go (inr z) m ih = (ap suc (ih z (m .1) .0), λ y w. at y (memb-cases x y (take k xs) w))
-        where
-          at : (y : ℕ) → (x ≡ y) ⊎ T (memb y (take k xs)) → E y v
-          at y (inl e) = rw (← e) (a .0 v z)
-          at y (inr w) = ih z (m .1) .1 y w
-
-  pub front : {C : ℕ → Type 0} {k j : ℕ} {L : List ℕ} → k ≤ j → FirstK C E j L → FirstK C E k (take k L)
-  front {C} {k} {j} {L} l F = record {
-    mem = λ v t. F .mem v (memb-take k v L t);
-    asc = asc-take k L (F .asc);
-    size = rw length-take (omega arith);
-    rest = λ v c t. go v c t (decT (memb v L));
-  }
-    where
-      go : (v : ℕ) → C v → T (not (memb v (take k L))) → T (memb v L) ⊎ T (not (memb v L)) → (length (take k L) ≡ k) × ((x : ℕ) → T (memb x (take k L)) → E x v)
-      go v c t (inl z) = past k L (F .asc) v z t
-      go v c t (inr z) = let r = F .rest v c z in let e = r .0 in (rw length-take (omega arith), λ x w. r .1 x (memb-take k x L w))
-
--- a list that is not full has every candidate, and one that has every candidate is the list for any larger k
-pub complete : {C : ℕ → Type 0} {E : ℕ → ℕ → Type 0} {j : ℕ} {L : List ℕ} → FirstK C E j L → length L < j → (v : ℕ) → C v → T (memb v L)
-complete {L} F l v c = go (decT (memb v L))
-  where
-    go : T (memb v L) ⊎ T (not (memb v L)) → T (memb v L)
-    go (inl t) = t
-    go (inr n) = let e = F .rest v c n .0 in absurd (omega arith)
-
-pub whole : {C : ℕ → Type 0} {E : ℕ → ℕ → Type 0} {k : ℕ} {L : List ℕ} → FirstK C E k L → ((v : ℕ) → C v → T (memb v L)) → (j : ℕ) → k ≤ j → FirstK C E j L
-whole {L} F h j l = record { mem = F .mem; asc = F .asc; size = let z = F .size in omega arith; rest = λ v c n. absurd (T-not (memb v L) n (h v c)) }
 
 -- ---- a list in a strict order fits into the numbers that it draws from
 

@@ -7,11 +7,8 @@ use Prim.Native.Nat.{ℕ, zero, suc, _≤_, _<_}
 use native.Mathlib.Decide.{decLt}
 use native.Mathlib.Omega.{arith}
 use Rattle.meaning.specs.Scan.{any, better, first}
-use Rattle.meaning.proofs.Bools.{T-true, T-false, or-left, or-right, or-cases}
+use Rattle.meaning.proofs.Bools.{T-false, or-left, or-right, or-cases}
 use lib.Dec.{T, T-not, ltb, ltb→lt, nltb→le}
-
-pub cond-true : {A : Type 0} (b : Bool) → T b → (x y : A) → cond b x y ≡ x
-cond-true b t x y = ap (λ c. cond c x y) (T-true b t)
 
 pub cond-false : {A : Type 0} (b : Bool) → T (not b) → (x y : A) → cond b x y ≡ y
 cond-false b t x y = ap (λ c. cond c x y) (T-false b t)
