@@ -1,0 +1,93 @@
+use borrow.Author.Needs.{needs}
+use borrow.Author.Tests.{eq-eqb, ne-eqb, le-leb, lt-leb, lt-ltb, le-ltb}
+use native.Mathlib.Omega.{arith}
+use Prim.Native.Nat.{ℕ, zero, suc, _+_, _-_, _*_, _≤_, _<_}
+use mathlib.Core.Path.{_≡_, refl, ap, sym, _∙_}
+use mathlib.Core.List.{List, [], _∷_, _++_}
+use mathlib.Core.Bool.{Bool, true, false, not}
+use lib.ListN.{length, getD, take, drop, set}
+use lib.Dec.{ltb, leb, eqb}
+use Rattle.judge.proofs.added.Statement.{statement}
+use Rattle.judge.proofs.added.Tie as tie
+use Rattle.judge.proofs.added.Reads as reads
+use Rattle.judge.proofs.added.Lts as lts
+use Rattle.judge.proofs.entry_fault.Reads as entry-fault-reads
+use Rattle.judge.proofs.marks.mark.Reads as mark-reads
+use Rattle.judge.proofs.marks.marked.Reads as marked-reads
+use Rattle.judge.proofs.node_of.Reads as node-of-reads
+use Rattle.judge.proofs.only_once.Reads as only-once-reads
+
+-- src/lib.rt:180:9
+returns : tie.Need-returns
+returns c = search needs
+
+-- src/lib.rt:184:9
+returns-2 : tie.Need-returns-2
+returns-2 c = search needs
+
+-- src/lib.rt:187:9
+entry-fault-requires : tie.Need-entry-fault-requires
+entry-fault-requires c κs = search needs
+
+-- src/lib.rt:189:9
+returns-3 : tie.Need-returns-3
+returns-3 c = search needs
+
+-- src/lib.rt:191:13
+node-of-requires : tie.Need-node-of-requires
+node-of-requires c κs = search needs
+
+-- src/lib.rt:191:13
+sub-k : tie.Need-sub-k
+sub-k c = search needs
+
+-- src/lib.rt:192:21
+marked-requires : tie.Need-marked-requires
+marked-requires c κs = search needs
+
+-- src/lib.rt:192:8
+only-once-requires : tie.Need-only-once-requires
+only-once-requires c κs = search needs
+
+-- src/lib.rt:193:9
+same-length : tie.Need-same-length
+same-length c = search needs
+
+-- src/lib.rt:193:9
+returns-4 : tie.Need-returns-4
+returns-4 c = search needs
+
+-- src/lib.rt:195:5
+mark-requires : tie.Need-mark-requires
+mark-requires c κs = search needs
+
+-- src/lib.rt:200:16
+add-t10 : tie.Need-add-t10
+add-t10 c = search needs
+
+-- src/lib.rt:175:1
+same-length-2 : tie.Need-same-length-2
+same-length-2 c = search needs
+
+-- src/lib.rt:175:1
+returns-5 : tie.Need-returns-5
+returns-5 c = search needs
+
+pub added-spec : {M : Type 1} → statement M
+added-spec =
+    tie.close
+    (tie.spec
+    returns
+    returns-2
+    entry-fault-requires
+    returns-3
+    node-of-requires
+    sub-k
+    marked-requires
+    only-once-requires
+    same-length
+    returns-4
+    mark-requires
+    add-t10
+    same-length-2
+    returns-5)

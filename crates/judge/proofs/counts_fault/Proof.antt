@@ -1,0 +1,61 @@
+use borrow.Author.Tests.{eq-eqb, ne-eqb, le-leb, lt-leb, lt-ltb, le-ltb}
+use native.Mathlib.Omega.{arith}
+use Prim.Native.Nat.{ℕ, zero, suc, _+_, _-_, _*_, _≤_, _<_}
+use mathlib.Core.Path.{_≡_, refl, ap, sym, _∙_}
+use mathlib.Core.List.{List, [], _∷_, _++_}
+use mathlib.Core.Bool.{Bool, true, false, not}
+use lib.ListN.{length, getD, take, drop, set}
+use lib.Dec.{ltb, leb, eqb}
+use borrow.Author.Needs.{needs}
+use Rattle.judge.proofs.counts_fault.Statement.{statement}
+use Rattle.judge.proofs.counts_fault.Tie as tie
+use Rattle.judge.proofs.counts_fault.Reads as reads
+use Rattle.judge.proofs.counts_fault.Lts as lts
+use Rattle.judge.proofs.agrees.Reads as agrees-reads
+use Rattle.judge.proofs.most_rows.Reads as most-rows-reads
+use Rattle.judge.proofs.within.Reads as within-reads
+
+-- src/lib.rt:85:9
+within-requires : tie.Need-within-requires
+within-requires c κs = search needs
+
+-- src/lib.rt:86:9
+returns : tie.Need-returns
+returns c = search needs
+
+-- src/lib.rt:88:8
+most-rows-requires : tie.Need-most-rows-requires
+most-rows-requires c κs = search needs
+
+-- src/lib.rt:89:9
+returns-2 : tie.Need-returns-2
+returns-2 c = search needs
+
+-- src/lib.rt:91:9
+agrees-requires : tie.Need-agrees-requires
+agrees-requires c κs = search needs
+
+-- src/lib.rt:92:9
+returns-3 : tie.Need-returns-3
+returns-3 c = search needs
+
+-- src/lib.rt:80:1
+returns-4 : tie.Need-returns-4
+returns-4 c = search needs
+
+-- src/lib.rt:80:1
+returns-5 : tie.Need-returns-5
+returns-5 c = search needs
+
+pub counts-fault-spec : {M : Type 1} → statement M
+counts-fault-spec =
+    tie.close
+    (tie.spec
+    within-requires
+    returns
+    most-rows-requires
+    returns-2
+    agrees-requires
+    returns-3
+    returns-4
+    returns-5)
