@@ -103,7 +103,11 @@ fn arc_fault(limits: Limits, n: usize, tail: usize, head: usize, weight: usize) 
     if !within(1, head, n) {
         return 5;
     }
-    if within(1, weight, limits.weight) { 0 } else { 6 }
+    if within(1, weight, limits.weight) {
+        0
+    } else {
+        6
+    }
 }
 
 fn point_fault(limits: Limits, n: usize, node: usize, x: i32, y: i32) -> usize
@@ -125,9 +129,7 @@ fn entry_fault(limits: Limits, n: usize, e: Entry) -> usize
     match e {
         Entry::Arc { tail, head, weight } => arc_fault(limits, n, tail, head, weight),
         Entry::Point { node, x, y } => point_fault(limits, n, node, x, y),
-        Entry::Site { node } => {
-            if within(1, node, n) { 0 } else { 5 }
-        }
+        Entry::Site { node } => { if within(1, node, n) { 0 } else { 5 } }
     }
 }
 
@@ -135,7 +137,11 @@ pub fn node_of(e: Entry) -> usize
     ensures { λ r. ⌜ r ≡ nodeOf e ⌝ }
 {
     match e {
-        Entry::Arc { tail, head: _, weight: _ } => tail,
+        Entry::Arc {
+            tail,
+            head: _,
+            weight: _,
+        } => tail,
         Entry::Point { node, x: _, y: _ } => node,
         Entry::Site { node } => node,
     }
@@ -145,8 +151,16 @@ fn only_once(e: Entry, given: bool) -> bool
     ensures { λ r. ⌜ r ≡ onlyOnce e given ⌝ }
 {
     match e {
-        Entry::Arc { tail: _, head: _, weight: _ } => false,
-        Entry::Point { node: _, x: _, y: _ } => given,
+        Entry::Arc {
+            tail: _,
+            head: _,
+            weight: _,
+        } => false,
+        Entry::Point {
+            node: _,
+            x: _,
+            y: _,
+        } => given,
         Entry::Site { node: _ } => given,
     }
 }

@@ -40,11 +40,11 @@ enum-told-2 c = search needs
 
 -- src/lib.rt:205:1
 returns : tie.Need-returns
-returns c = search needs
+returns c = λ p k. rw (c .enum-told .given .1) k
 
 -- src/lib.rt:205:1
 returns-2 : tie.Need-returns-2
-returns-2 c = search needs
+returns-2 c = λ p k. rw (c .before .before .line .given .1) (c .begun .ensures _ p k)
 
 -- src/lib.rt:205:1
 same-length : tie.Need-same-length
@@ -52,11 +52,11 @@ same-length c = search needs
 
 -- src/lib.rt:205:1
 returns-3 : tie.Need-returns-3
-returns-3 c = search needs
+returns-3 c = λ p k. rw (c .before .before .before .before .before .line2 .given .1) (c .before .before .added .ensures p k)
 
 -- src/lib.rt:205:1
 returns-4 : tie.Need-returns-4
-returns-4 c = search needs
+returns-4 c = λ p k. rw (c .enum-told2 .given .1) refl
 
 pub advanced-spec : {M : Type 1} → statement M
 advanced-spec =

@@ -30,7 +30,7 @@ returns c = search needs
 
 -- src/lib.rt:69:1
 returns-2 : tie.Need-returns-2
-returns-2 c = search needs
+returns-2 c = rw (c .enum-told2 .given .1)
 
 -- src/lib.rt:69:1
 returns-3 : tie.Need-returns-3

@@ -1,3 +1,4 @@
+use borrow.Author.Tests.{not-true, not-false}
 use borrow.Author.Tests.{eq-eqb, ne-eqb, le-leb, lt-leb, lt-ltb, le-ltb}
 use native.Mathlib.Omega.{arith}
 use Prim.Native.Nat.{ℕ, zero, suc, _+_, _-_, _*_, _≤_, _<_}
@@ -21,7 +22,7 @@ within-requires c κs = search needs
 
 -- src/lib.rt:86:9
 returns : tie.Need-returns
-returns c = search needs
+returns c = rw (sym (c .before .within .ensures) ∙ not-true (c .before .within .result) (c .if1 .taken))
 
 -- src/lib.rt:88:8
 most-rows-requires : tie.Need-most-rows-requires
@@ -29,7 +30,7 @@ most-rows-requires c κs = search needs
 
 -- src/lib.rt:89:9
 returns-2 : tie.Need-returns-2
-returns-2 c = search needs
+returns-2 c = rw (sym (c .before .before .before .before .within .ensures) ∙ not-false (c .before .before .before .before .within .result) (c .before .before .before .if1 .left), ← c .before .before .most-rows .ensures, lt-leb _ _ (c .if2 .taken))
 
 -- src/lib.rt:91:9
 agrees-requires : tie.Need-agrees-requires
@@ -37,15 +38,15 @@ agrees-requires c κs = search needs
 
 -- src/lib.rt:92:9
 returns-3 : tie.Need-returns-3
-returns-3 c = search needs
+returns-3 c = rw (sym (c .before .before .before .before .before .before .within .ensures) ∙ not-false (c .before .before .before .before .before .before .within .result) (c .before .before .before .before .before .if1 .left), ← c .before .before .before .before .most-rows .ensures, le-leb _ _ (c .before .before .if2 .left), sym (c .before .agrees .ensures) ∙ not-true (c .before .agrees .result) (c .if3 .taken))
 
 -- src/lib.rt:80:1
 returns-4 : tie.Need-returns-4
-returns-4 c = search needs
+returns-4 c = rw (sym (c .before .before .before .before .before .before .before .before .before .within .ensures) ∙ not-false (c .before .before .before .before .before .before .before .before .before .within .result) (c .before .before .before .before .before .before .before .before .if1 .left), ← c .before .before .before .before .before .before .before .most-rows .ensures, le-leb _ _ (c .before .before .before .before .before .if2 .left), sym (c .before .before .before .before .agrees .ensures) ∙ not-false (c .before .before .before .before .agrees .result) (c .before .before .before .if3 .left), le-leb _ _ (c .if4 .taken))
 
 -- src/lib.rt:80:1
 returns-5 : tie.Need-returns-5
-returns-5 c = search needs
+returns-5 c = rw (sym (c .before .before .before .before .before .before .before .before .before .within .ensures) ∙ not-false (c .before .before .before .before .before .before .before .before .before .within .result) (c .before .before .before .before .before .before .before .before .if1 .left), ← c .before .before .before .before .before .before .before .most-rows .ensures, le-leb _ _ (c .before .before .before .before .before .if2 .left), sym (c .before .before .before .before .agrees .ensures) ∙ not-false (c .before .before .before .before .agrees .result) (c .before .before .before .if3 .left), lt-leb _ _ (c .if4 .left))
 
 pub counts-fault-spec : {M : Type 1} → statement M
 counts-fault-spec =

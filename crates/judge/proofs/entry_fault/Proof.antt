@@ -1,3 +1,4 @@
+use Rattle.judge.proofs.Sizes.{held-both}
 use borrow.Author.Tests.{eq-eqb, ne-eqb, le-leb, lt-leb, lt-ltb, le-ltb}
 use native.Mathlib.Omega.{arith}
 use Prim.Native.Nat.{ℕ, zero, suc, _+_, _-_, _*_, _≤_, _<_}
@@ -41,19 +42,19 @@ within-requires c κs = search needs
 
 -- src/lib.rt:122:1
 returns : tie.Need-returns
-returns c = search needs
+returns c = rw (c .before .before .e .given .1) (c .arc-fault .ensures)
 
 -- src/lib.rt:122:1
 returns-2 : tie.Need-returns-2
-returns-2 c = search needs
+returns-2 c = rw (c .before .before .e2 .given .1) (c .point-fault .ensures ∙ held-both (c .before .before .before .before .args .limits) (c .before .before .before .before .args .n) (c .before .before .e2 .given .0 .0) (c .before .before .e2 .given .0 .1 .0) (c .before .before .e2 .given .0 .1 .1 .0) (record { sfits = c .before .known-told2 .given .1 .0 .1 }) (record { sfits = c .before .known-told2 .given .1 .1 .0 .1 }))
 
 -- src/lib.rt:122:1
 returns-3 : tie.Need-returns-3
-returns-3 c = search needs
+returns-3 c = rw (c .before .before .before .e3 .given .1, sym (c .before .within .ensures) ∙ c .if1 .taken)
 
 -- src/lib.rt:122:1
 returns-4 : tie.Need-returns-4
-returns-4 c = search needs
+returns-4 c = rw (c .before .before .before .e3 .given .1, sym (c .before .within .ensures) ∙ c .if1 .left)
 
 pub entry-fault-spec : {M : Type 1} → statement M
 entry-fault-spec =

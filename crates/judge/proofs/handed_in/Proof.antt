@@ -39,11 +39,11 @@ returns c = search needs
 
 -- src/lib.rt:241:1
 returns-2 : tie.Need-returns-2
-returns-2 c = search needs
+returns-2 c = rw (c .before .enum-told2 .given .1) (c .within .ensures)
 
 -- src/lib.rt:241:1
 returns-3 : tie.Need-returns-3
-returns-3 c = search needs
+returns-3 c = rw (c .before .enum-told3 .given .1) (c .within2 .ensures)
 
 pub handed-in-spec : {M : Type 1} → statement M
 handed-in-spec =

@@ -1,3 +1,5 @@
+use lib.IntN.{ℤ, natAbs}
+use Rattle.judge.proofs.Sizes.{held}
 use borrow.Author.Tests.{eq-eqb, ne-eqb, le-leb, lt-leb, lt-ltb, le-ltb}
 use native.Mathlib.Omega.{arith}
 use Prim.Native.Nat.{ℕ, zero, suc, _+_, _-_, _*_, _≤_, _<_}
@@ -19,7 +21,7 @@ size-requires c κs = search needs
 
 -- src/lib.rt:53:1
 returns : tie.Need-returns
-returns c = search needs
+returns c = ap (λ (n : ℕ). leb n (c .before .before .args .limits .coordinate)) (c .before .size .ensures ∙ ap natAbs (held (c .before .before .args .z) (c .before .before .fits .z)))
 
 pub is-coordinate-spec : {M : Type 1} → statement M
 is-coordinate-spec = tie.close (tie.spec size-requires returns)

@@ -14,11 +14,11 @@ use Rattle.judge.proofs.within.Lts as lts
 
 -- src/lib.rt:35:1
 returns : tie.Need-returns
-returns c = search needs
+returns c = rw (le-leb _ _ (c .if1 .taken))
 
 -- src/lib.rt:35:1
 returns-2 : tie.Need-returns-2
-returns-2 c = search needs
+returns-2 c = rw (lt-leb _ _ (c .if1 .left))
 
 pub within-spec : {M : Type 1} → statement M
 within-spec = tie.close (tie.spec returns returns-2)
