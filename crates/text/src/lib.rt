@@ -26,8 +26,8 @@ fn line_len(rest: &[u8]) -> usize
     i
 }
 
-// The line that starts at a position of a text.
-pub fn piece_at(s: &[u8], at: usize) -> Piece
+// The line that starts at a position of a text: the reader's work, on a slice and a number.
+fn piece_at(s: &[u8], at: usize) -> Piece
     ensures { λ r. ⌜ r ≡ pieceAt (now (s .entry)) at ⌝ }
 {
     if at < s.len() {
@@ -38,10 +38,31 @@ pub fn piece_at(s: &[u8], at: usize) -> Piece
     }
 }
 
+// A line reader stays on one text and remembers its position.
+struct Lines<'a> {
+    text: &'a [u8],
+    at: usize,
+}
+
+// A reader that stands at a position.
+fn open<'a>(text: &'a [u8], at: usize) -> Lines<'a>
+    ensures { λ r. ⌜ (r .text ≡ text .entry) × (r .at ≡ at) ⌝ }
+{
+    Lines { text, at }
+}
+
+// The line that a reader stands at.
+fn next<'a>(r: Lines<'a>) -> Piece
+    ensures { λ s. ⌜ s ≡ pieceAt (now (r .entry .text)) (r .entry .at) ⌝ }
+{
+    piece_at(r.text, r.at)
+}
+
+// The line at a position, by the reader: with plain parameters, for a loop over a text.
 pub fn line_at(s: &[u8], at: usize) -> Piece
     ensures { λ r. ⌜ r ≡ pieceAt (now (s .entry)) at ⌝ }
 {
-    piece_at(s, at)
+    next(open(s, at))
 }
 
 // A line without one CR at its end.
