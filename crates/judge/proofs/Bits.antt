@@ -7,10 +7,10 @@ use lib.ListN.{length, getD, set, length-set}
 use lib.Seq.{getD-set-same, getD-set-other}
 use lib.Dec.{eqb, ltb}
 use lib.Bits.{bitAnd, bitOr, and-mask, or-shr, or-mod, or-zero-r, shifted-even}
-use lib.Pow.{pow-lt, shl-shr, pow-add, pow-pos, shl-exact}
-use native.Mathlib.Nat.{div-eq-of-lt, one-mul, pow-suc}
+use lib.Pow.{pow-lt, shl-shr, pow-add}
+use native.Mathlib.Nat.{div-eq-of-lt, one-mul}
 use native.Mathlib.Omega.{arith}
-use borrow.Author.Tests.{eq-eqb, ne-eqb, eqb-true, eqb-false, ltb-true, ltb-false}
+use borrow.Author.Tests.{eqb-true, eqb-false, ltb-true, ltb-false}
 use Rattle.judge.specs.Marks.{isMarked, Added}
 
 pub low-bits : (k : ℕ) → bitAnd k 31 ≡ k % 32

@@ -1,55 +1,33 @@
 -- Each way on from a line, as the rules have it.
-use Prim.Native.Nat.{ℕ, zero, suc, _+_, _-_, _*_, _≤_, _<_}
-use mathlib.Core.Path.{_≡_, refl, ap, sym, _∙_, subst}
+use Prim.Native.Nat.{ℕ, suc, _+_, _-_, _*_, _≤_, _<_}
+use mathlib.Core.Path.{_≡_, refl, ap, sym, _∙_}
 use mathlib.Core.List.{List, [], _∷_, _++_}
-use mathlib.Core.Bool.{Bool, true, false, cond, _&&_, _||_}
+use mathlib.Core.Bool.{Bool, true, false, _&&_, _||_, or-comm}
 use lib.ListN.{length, length-append}
-use lib.Dec.{leb, eqb, eqb·suc-suc}
+use lib.Dec.{leb, eqb}
 use native.Mathlib.Omega.{arith}
-use borrow.Author.Tests.{eq-eqb, ne-eqb, eqb-true, eqb-false, le-leb, lt-leb, leb-true}
-use Rattle.meaning.specs.Files.{within, isWeight, isCoordinate, mostRows, agrees, countsFault, entryFault, nodeOf, isGiven, repeated, Progress, awaiting, begun, step, finish, answered}
+use borrow.Author.Tests.{eq-eqb, ne-eqb, eqb-true, eqb-false, le-leb, lt-leb}
+use Rattle.meaning.specs.Files.{within, mostRows, agrees, countsFault, entryFault, nodeOf, isGiven, repeated, Progress, awaiting, begun, step, finish, answered}
+use Rattle.meaning.proofs.Reading.{both, passed, within-is, node-fine, given-more}
 use Rattle.meaning.specs.declared.Rules.{Rules}
-use Rattle.meaning.specs.declared.Limits.{Limits}
 use Rattle.meaning.specs.declared.Counts.{Counts}
 use Rattle.meaning.specs.declared.Entry.{Entry}
 use Rattle.meaning.specs.declared.Entry.the-variants.{Arc, Point, Site}
 use Rattle.meaning.specs.declared.Line.the-variants.{Problem, Data}
 use Rattle.meaning.specs.declared.Read.the-variants.{Refused, Accepted}
 use Rattle.judge.specs.Marks.{isMarked, Added}
-use Rattle.judge.specs.Follows.{stateOf, entriesOf, onlyOnce, Tracks, Keeps, Follows}
+use Rattle.judge.specs.Follows.{stateOf, onlyOnce, Tracks, Keeps, Follows}
 use Rattle.judge.specs.declared.State.{State}
 use Rattle.judge.specs.declared.Step.the-variants.{On, Stop}
 
 not-both : false ≡ true → ⊥
 not-both e = let z : _≡_ {A = ℕ} 0 1 = cc in omega arith
 
--- what a fault of 0 says
-passed : (t : Bool) (a b : ℕ) → (b ≡ 0 → ⊥) → cond t a b ≡ 0 → t ≡ true
-passed true a b h e = refl
-passed false a b h e = absurd (h e)
-
-and-left : (s t : Bool) → (s && t) ≡ true → s ≡ true
-and-left true t e = refl
-and-left false t e = e
-
-inside : (lo x hi : ℕ) → within lo x hi ≡ true → (lo ≤ x) × (x ≤ hi)
-inside lo x hi h = go (leb lo x) refl h
-  where
-    go : (t : Bool) → leb lo x ≡ t → (t && leb x hi) ≡ true → (lo ≤ x) × (x ≤ hi)
-    go true e g = (leb-true lo x e, leb-true x hi g)
-    go false e g = absurd (not-both g)
-
 counts-few : (R : Rules) (c : Counts) → countsFault R c ≡ 0 → c .nodes ≤ R .limits .nodes
 counts-few R c h =
-    inside 1 (c .nodes) (R .limits .nodes)
-    (and-left (within 1 (c .nodes) (R .limits .nodes)) (leb (c .rows) (mostRows (R .limits) (R .kind)) && agrees (R .kind) (R .given) (c .nodes))
-    (passed (within 1 (c .nodes) (R .limits .nodes) && (leb (c .rows) (mostRows (R .limits) (R .kind)) && agrees (R .kind) (R .given) (c .nodes))) _ 4 (λ z. omega arith) h))
-    .1
-
-pub entry-inside : (L : Limits) (n : ℕ) (e : Entry) → entryFault L n e ≡ 0 → (1 ≤ nodeOf e) × (nodeOf e ≤ n)
-entry-inside L n (Arc u v w) h = inside 1 u n (and-left (within 1 u n) (within 1 v n) (passed (within 1 u n && within 1 v n) _ 5 (λ z. omega arith) h))
-entry-inside L n (Point v x y) h = inside 1 v n (passed (within 1 v n) _ 5 (λ z. omega arith) h)
-entry-inside L n (Site v) h = inside 1 v n (passed (within 1 v n) _ 5 (λ z. omega arith) h)
+    let rest : Bool = leb (c .rows) (mostRows (R .limits) (R .kind)) && agrees (R .kind) (R .given) (c .nodes) in
+    let inside : Bool = within 1 (c .nodes) (R .limits .nodes) in
+    within-is 1 (c .nodes) (R .limits .nodes) (both inside rest (passed (inside && rest) _ 4 (omega arith) h .0) .0) .1
 
 -- ---- a problem line
 
@@ -70,16 +48,6 @@ module _ (R : Rules) (c : Counts) (s : State) (seen : List ℕ) where
 
 -- ---- the marks
 
-given-last : (v : ℕ) (es : List Entry) (e : Entry) → isGiven v (es ++ e ∷ []) ≡ (eqb (nodeOf e) v || isGiven v es)
-given-last v [] e = refl
-given-last v (d ∷ es) e = ap (λ (t : Bool). eqb (nodeOf d) v || t) (given-last v es e) ∙ swap (eqb (nodeOf d) v) (eqb (nodeOf e) v) (isGiven v es)
-  where
-    swap : (a b c : Bool) → (a || (b || c)) ≡ (b || (a || c))
-    swap true true c = refl
-    swap true false c = refl
-    swap false true c = refl
-    swap false false c = refl
-
 repeated-is : (e : Entry) (es : List Entry) → repeated e es ≡ onlyOnce e (isGiven (nodeOf e) es)
 repeated-is (Arc u v w) es = refl
 repeated-is (Point v x y) es = refl
@@ -95,7 +63,8 @@ module _ (seen : List ℕ) (es : List Entry) (tracks : Tracks seen es) where
   track-on seen′ e l a j h =
       a .bits j ∙ ap (λ (t : Bool). t || isMarked seen j) (same (eqb j (nodeOf e - 1)) refl)
       ∙ ap (λ (t : Bool). eqb (nodeOf e) (suc j) || t) (tracks j (omega (arith, a .size)))
-      ∙ sym (given-last (suc j) es e)
+      ∙ or-comm (eqb (nodeOf e) (suc j)) (isGiven (suc j) es)
+      ∙ sym (given-more (suc j) es e)
     where
       same : (t : Bool) → eqb j (nodeOf e - 1) ≡ t → t ≡ eqb (nodeOf e) (suc j)
       same true q = let i : j ≡ nodeOf e - 1 = eqb-true j (nodeOf e - 1) q in sym (eq-eqb (nodeOf e) (suc j) (omega arith))
@@ -126,7 +95,7 @@ module _ (R : Rules) (e : Entry) (s : State) where
         here d es q = ap (λ (t : State). entryFault (R .limits) (t .nodes) e) (sym q) ∙ z
 
         room : (seen : List ℕ) → s .nodes ≤ 32 * length seen → (1 ≤ nodeOf e) × (nodeOf e ≤ 32 * length seen)
-        room seen w = let i : (1 ≤ nodeOf e) × (nodeOf e ≤ s .nodes) = entry-inside (R .limits) (s .nodes) e z in (i .0, omega arith)
+        room seen w = let i = node-fine (R .limits) (s .nodes) e z in (i .low, omega (arith, i .high))
 
         again : (seen : List ℕ) (es : List Entry) → Tracks seen es → s .nodes ≤ 32 * length seen → onlyOnce e (isMarked seen (nodeOf e - 1)) ≡ repeated e es
         again seen es tr w =

@@ -17,9 +17,9 @@ abbrev pub stateOf : Progress → State
 stateOf awaiting = record { begun = false; nodes = 0; rows = 0; count = 0 }
 stateOf (begun c es) = record { begun = true; nodes = c .nodes; rows = c .rows; count = length es }
 
-abbrev pub entriesOf : Progress → List Entry
-entriesOf awaiting = []
-entriesOf (begun c es) = es
+abbrev pub entriesSince : Progress → List Entry
+entriesSince awaiting = []
+entriesSince (begun c es) = es
 
 -- only a point and a site may not repeat a node
 abbrev pub onlyOnce : Entry → Bool → Bool
@@ -34,7 +34,7 @@ Tracks seen es = (j : ℕ) → j < 32 * length seen → isMarked seen j ≡ isGi
 -- the code's state and marks are those of a progress, whose nodes are at most n
 pub record Keeps (n : ℕ) (s : State) (seen : List ℕ) (p : Progress) : Type 0 where
   pub state : s ≡ stateOf p
-  pub tracks : Tracks seen (entriesOf p)
+  pub tracks : Tracks seen (entriesSince p)
   pub few : s .nodes ≤ n
 
 -- the code's answer to a line, and its marks, are what the rules say

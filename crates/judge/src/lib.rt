@@ -6,8 +6,10 @@ ghost use lib.ListN.{length};
 ghost use lib.IntN.{natAbs};
 ghost use Rattle.meaning.specs.Limits.{base};
 ghost use Rattle.meaning.specs.Files.{Progress, within as isWithin, isCoordinate, mostRows, agrees as isAgreed, countsFault, entryFault, nodeOf, step, readFrom, handedIn, reading, answered, finish};
+ghost use Rattle.meaning.specs.Text.{lines};
 ghost use Rattle.judge.specs.Marks.{isMarked};
-ghost use Rattle.judge.specs.Follows.{stateOf, entriesOf, onlyOnce, Tracks, Keeps, Follows};
+ghost use Rattle.judge.specs.Said.{saidAt};
+ghost use Rattle.judge.specs.Follows.{stateOf, entriesSince, onlyOnce, Tracks, Keeps, Follows};
 use meaning::Counts;
 use meaning::Entry;
 use meaning::Kind;
@@ -15,6 +17,7 @@ use meaning::Limits;
 use meaning::Line;
 use meaning::Read;
 use meaning::Rules;
+use text::Piece;
 
 mod marks;
 
@@ -260,4 +263,88 @@ fn handed_in(limits: Limits, kind: Kind, n: usize) -> bool
         Kind::Coordinates => within(1, n, limits.nodes),
         Kind::Sites => within(1, n, limits.nodes),
     }
+}
+
+// What a line says, and where the next starts.
+pub struct Said {
+    pub line: Line,
+    pub next: usize,
+}
+
+// What the line that starts at a position says.
+pub fn said_at(kind: Kind, given: usize, text: &[u8], at: usize) -> Said
+    ensures { λ r. ⌜ r ≡ saidAt kind given (now (text .entry)) at ⌝ }
+{
+    match text::line_at(text, at) {
+        Piece::Line(start, len, next) => {
+            let end = start + len;
+            let line = grammar::line_of(kind, given, text::trimmed(&text[start..end]));
+            Said { line, next }
+        }
+        Piece::End => Said {
+            line: Line::Nothing,
+            next: at,
+        },
+    }
+}
+
+// The lines in order, of a text whose size and handed-in N have been tested.
+fn judge(rules: Rules, text: &[u8]) -> Read
+    requires { ⌜ rules .limits .nodes ≤ 1024 ⌝ }
+    ensures { λ r. ⌜ r ≡ answered (readFrom rules (lines (now (text .entry))) Progress.awaiting 0) ⌝ }
+{
+    let kind = rules.kind;
+    let given = rules.given;
+    let mut seen = [0u32; 32];
+    let mut st = State {
+        begun: false,
+        nodes: 0,
+        rows: 0,
+        count: 0,
+    };
+    let mut at = 0;
+    let mut place: usize = 0;
+    while at < text.len() {
+        let said = said_at(kind, given, text, at);
+        let line = said.line;
+        place += 1;
+        match advanced(rules, st, &mut seen, line) {
+            Step::On(next) => {
+                st = next;
+            }
+            Step::Stop(number) => {
+                return Read::Refused { number, place };
+            }
+        }
+        at = said.next;
+    }
+    finished(st)
+}
+
+// The answer of a reader: 1, then a handed-in N 4, then the lines.
+pub fn judged(kind: Kind, given: usize, room: usize, text: &[u8]) -> Read
+    ensures { λ r. ⌜ r ≡ answered (reading (record { limits = base; kind = kind; given = given; room = room }) (now (text .entry))) ⌝ }
+{
+    let limits = meaning::base();
+    if limits.text < text.len() {
+        return Read::Refused {
+            number: 1,
+            place: 0,
+        };
+    }
+    if !handed_in(limits, kind, given) {
+        return Read::Refused {
+            number: 4,
+            place: 0,
+        };
+    }
+    judge(
+        Rules {
+            limits,
+            kind,
+            given,
+            room,
+        },
+        text,
+    )
 }

@@ -1,44 +1,27 @@
 use borrow.Author.Tests.{not-true, not-false}
-use borrow.Author.Tests.{eq-eqb, ne-eqb, le-leb, lt-leb, lt-ltb, le-ltb}
-use native.Mathlib.Omega.{arith}
-use Prim.Native.Nat.{ℕ, zero, suc, _+_, _-_, _*_, _≤_, _<_}
-use mathlib.Core.Path.{_≡_, refl, ap, sym, _∙_}
-use mathlib.Core.List.{List, [], _∷_, _++_}
-use mathlib.Core.Bool.{Bool, true, false, not}
-use lib.ListN.{length, getD, take, drop, set}
-use lib.Dec.{ltb, leb, eqb}
+use mathlib.Core.Path.{sym, _∙_}
 use borrow.Author.Needs.{needs}
 use Rattle.judge.proofs.arc_fault.Statement.{statement}
 use Rattle.judge.proofs.arc_fault.Tie as tie
-use Rattle.judge.proofs.arc_fault.Reads as reads
-use Rattle.judge.proofs.arc_fault.Lts as lts
-use Rattle.judge.proofs.within.Reads as within-reads
 
--- src/lib.rt:100:9
 within-requires : tie.Need-within-requires
 within-requires c κs = search needs
 
--- src/lib.rt:101:9
 returns : tie.Need-returns
 returns c = rw (sym (c .before .within .ensures) ∙ not-true (c .before .within .result) (c .if1 .taken))
 
--- src/lib.rt:103:9
 within-requires-2 : tie.Need-within-requires-2
 within-requires-2 c κs = search needs
 
--- src/lib.rt:104:9
 returns-2 : tie.Need-returns-2
 returns-2 c = rw (sym (c .before .before .before .within .ensures) ∙ not-false (c .before .before .before .within .result) (c .before .before .if1 .left), sym (c .before .within2 .ensures) ∙ not-true (c .before .within2 .result) (c .if2 .taken))
 
--- src/lib.rt:106:8
 within-requires-3 : tie.Need-within-requires-3
 within-requires-3 c κs = search needs
 
--- src/lib.rt:97:1
 returns-3 : tie.Need-returns-3
 returns-3 c = rw (sym (c .before .before .before .before .before .within .ensures) ∙ not-false (c .before .before .before .before .before .within .result) (c .before .before .before .before .if1 .left), sym (c .before .before .before .within2 .ensures) ∙ not-false (c .before .before .before .within2 .result) (c .before .before .if2 .left), sym (c .before .within3 .ensures) ∙ c .if3 .taken)
 
--- src/lib.rt:97:1
 returns-4 : tie.Need-returns-4
 returns-4 c = rw (sym (c .before .before .before .before .before .within .ensures) ∙ not-false (c .before .before .before .before .before .within .result) (c .before .before .before .before .if1 .left), sym (c .before .before .before .within2 .ensures) ∙ not-false (c .before .before .before .within2 .result) (c .before .before .if2 .left), sym (c .before .within3 .ensures) ∙ c .if3 .left)
 

@@ -1,58 +1,36 @@
 use Rattle.judge.proofs.Sizes.{held-both}
-use borrow.Author.Tests.{eq-eqb, ne-eqb, le-leb, lt-leb, lt-ltb, le-ltb}
-use native.Mathlib.Omega.{arith}
-use Prim.Native.Nat.{ℕ, zero, suc, _+_, _-_, _*_, _≤_, _<_}
-use mathlib.Core.Path.{_≡_, refl, ap, sym, _∙_}
-use mathlib.Core.List.{List, [], _∷_, _++_}
-use mathlib.Core.Bool.{Bool, true, false, not}
-use lib.ListN.{length, getD, take, drop, set}
-use lib.Dec.{ltb, leb, eqb}
+use mathlib.Core.Path.{sym, _∙_}
 use borrow.Author.Needs.{needs}
 use Rattle.judge.proofs.entry_fault.Statement.{statement}
 use Rattle.judge.proofs.entry_fault.Tie as tie
-use Rattle.judge.proofs.entry_fault.Reads as reads
-use Rattle.judge.proofs.entry_fault.Lts as lts
-use Rattle.judge.proofs.arc_fault.Reads as arc-fault-reads
-use Rattle.judge.proofs.point_fault.Reads as point-fault-reads
-use Rattle.judge.proofs.within.Reads as within-reads
 
--- src/lib.rt:126:22
 enum-known-e : tie.Need-enum-known-e
 enum-known-e c = search needs
 
--- src/lib.rt:126:46
 arc-fault-requires : tie.Need-arc-fault-requires
 arc-fault-requires c κs = search needs
 
--- src/lib.rt:127:24
 enum-known-e-2 : tie.Need-enum-known-e-2
 enum-known-e-2 c = search needs
 
--- src/lib.rt:127:40
 point-fault-requires : tie.Need-point-fault-requires
 point-fault-requires c κs = search needs
 
--- src/lib.rt:128:23
 enum-known-e-3 : tie.Need-enum-known-e-3
 enum-known-e-3 c = search needs
 
--- src/lib.rt:129:16
 within-requires : tie.Need-within-requires
 within-requires c κs = search needs
 
--- src/lib.rt:122:1
 returns : tie.Need-returns
 returns c = rw (c .before .before .e .given .1) (c .arc-fault .ensures)
 
--- src/lib.rt:122:1
 returns-2 : tie.Need-returns-2
 returns-2 c = rw (c .before .before .e2 .given .1) (c .point-fault .ensures ∙ held-both (c .before .before .before .before .args .limits) (c .before .before .before .before .args .n) (c .before .before .e2 .given .0 .0) (c .before .before .e2 .given .0 .1 .0) (c .before .before .e2 .given .0 .1 .1 .0) (record { sfits = c .before .known-told2 .given .1 .0 .1 }) (record { sfits = c .before .known-told2 .given .1 .1 .0 .1 }))
 
--- src/lib.rt:122:1
 returns-3 : tie.Need-returns-3
 returns-3 c = rw (c .before .before .before .e3 .given .1, sym (c .before .within .ensures) ∙ c .if1 .taken)
 
--- src/lib.rt:122:1
 returns-4 : tie.Need-returns-4
 returns-4 c = rw (c .before .before .before .e3 .given .1, sym (c .before .within .ensures) ∙ c .if1 .left)
 
