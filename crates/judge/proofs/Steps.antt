@@ -1,6 +1,6 @@
 -- Each way on from a line, as the rules have it.
 use Prim.Native.Nat.{ℕ, suc, _+_, _-_, _*_, _≤_, _<_}
-use mathlib.Core.Path.{_≡_, refl, ap, sym, _∙_}
+use mathlib.Core.Path.{_≡_, refl, ap, sym, _∙_, subst}
 use mathlib.Core.List.{List, [], _∷_, _++_}
 use mathlib.Core.Bool.{Bool, true, false, _&&_, _||_, or-comm}
 use lib.ListN.{length, length-append}
@@ -94,32 +94,33 @@ module _ (R : Rules) (e : Entry) (s : State) where
         here : (d : Counts) (es : List Entry) → s ≡ stateOf (begun d es) → entryFault (R .limits) (d .nodes) e ≡ 0
         here d es q = ap (λ (t : State). entryFault (R .limits) (t .nodes) e) (sym q) ∙ z
 
-        room : (seen : List ℕ) → s .nodes ≤ 32 * length seen → (1 ≤ nodeOf e) × (nodeOf e ≤ 32 * length seen)
-        room seen w = let i = node-fine (R .limits) (s .nodes) e z in (i .low, omega (arith, i .high))
+        -- what the code asked of the marks
+        module _ (seen : List ℕ) (wide : s .nodes ≤ 32 * length seen) (node : ℕ) (node-is : node ≡ nodeOf e) (twice : Bool) (twice-is : twice ≡ onlyOnce e (isMarked seen (node - 1))) where
+          low : 1 ≤ nodeOf e
+          low = node-fine (R .limits) (s .nodes) e z .low
 
-        again : (seen : List ℕ) (es : List Entry) → Tracks seen es → s .nodes ≤ 32 * length seen → onlyOnce e (isMarked seen (nodeOf e - 1)) ≡ repeated e es
-        again seen es tr w =
-            let i : (1 ≤ nodeOf e) × (nodeOf e ≤ 32 * length seen) = room seen w in
-            ap (onlyOnce e) (tracked seen es tr (nodeOf e) (i .0) (i .1)) ∙ sym (repeated-is e es)
+          high : nodeOf e ≤ 32 * length seen
+          high = omega (arith, node-fine (R .limits) (s .nodes) e z .high)
 
-        pub data-twice : (seen : List ℕ) (p : Progress) → Keeps (R .limits .nodes) s seen p → s .nodes ≤ 32 * length seen
-            → onlyOnce e (isMarked seen (nodeOf e - 1)) ≡ true → Follows (R .limits .nodes) (Stop 8) seen (step R p (Data e))
-        data-twice seen awaiting k w t = absurd (not-both (rw (k .state) at h))
-        data-twice seen (begun d es) k w t =
-            rw (lt-leb (d .rows) (length es) (rw (k .state) at l), here d es (k .state), sym (again seen es (k .tracks) w) ∙ t) refl
+          again : (es : List Entry) → Tracks seen es → repeated e es ≡ twice
+          again es tr =
+              repeated-is e es ∙ ap (onlyOnce e) (sym (tracked seen es tr (nodeOf e) low high)) ∙ ap (λ (v : ℕ). onlyOnce e (isMarked seen (v - 1))) (sym node-is) ∙ sym twice-is
 
-        pub data-on : (seen seen′ : List ℕ) (p : Progress) → Keeps (R .limits .nodes) s seen p → s .nodes ≤ 32 * length seen
-            → onlyOnce e (isMarked seen (nodeOf e - 1)) ≡ false → Added seen (nodeOf e - 1) seen′
-            → Follows (R .limits .nodes) (On (record { begun = true; nodes = s .nodes; rows = s .rows; count = s .count + 1 })) seen′ (step R p (Data e))
-        data-on seen seen′ awaiting k w t a = absurd (not-both (rw (k .state) at h))
-        data-on seen seen′ (begun d es) k w t a =
-            rw (lt-leb (d .rows) (length es) (rw (k .state) at l), here d es (k .state), sym (again seen es (k .tracks) w) ∙ t) (record {
-              state =
+          pub data-twice : (p : Progress) → Keeps (R .limits .nodes) s seen p → twice ≡ true → Follows (R .limits .nodes) (Stop 8) seen (step R p (Data e))
+          data-twice awaiting k t = absurd (not-both (rw (k .state) at h))
+          data-twice (begun d es) k t = rw (lt-leb (d .rows) (length es) (rw (k .state) at l), here d es (k .state), again es (k .tracks) ∙ t) refl
+
+          pub data-on : (seen′ : List ℕ) (p : Progress) → Keeps (R .limits .nodes) s seen p → twice ≡ false → Added seen (node - 1) seen′
+              → Follows (R .limits .nodes) (On (record { begun = true; nodes = s .nodes; rows = s .rows; count = s .count + 1 })) seen′ (step R p (Data e))
+          data-on seen′ awaiting k t a = absurd (not-both (rw (k .state) at h))
+          data-on seen′ (begun d es) k t a =
+              rw (lt-leb (d .rows) (length es) (rw (k .state) at l), here d es (k .state), again es (k .tracks) ∙ t) (record {
+                state =
                   ap (λ (t : State). record { begun = true; nodes = t .nodes; rows = t .rows; count = t .count + 1 }) (k .state)
                   ∙ ap (λ (n : ℕ). record { begun = true; nodes = d .nodes; rows = d .rows; count = n }) (sym (length-append es (e ∷ [])));
-              tracks = track-on seen es (k .tracks) seen′ e (room seen w .0) a;
-              few = k .few;
-            })
+                tracks = track-on seen es (k .tracks) seen′ e low (subst (λ (v : ℕ). Added seen (v - 1) seen′) node-is a);
+                few = k .few;
+              })
 
 -- ---- the end
 

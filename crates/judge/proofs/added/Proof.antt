@@ -38,7 +38,7 @@ same-length : tie.Need-same-length
 same-length c = search needs
 
 returns-4 : tie.Need-returns-4
-returns-4 c = λ p k. data-twice (c .before .before .before .before .before .before .before .before .before .before .before .before .before .args .rules) (c .before .before .before .before .before .before .before .before .before .before .before .before .before .args .e) (c .before .before .before .before .before .before .before .before .before .before .before .before .before .args .st) (not-false (c .before .before .before .before .before .before .before .before .before .before .before .before .before .args .st .begun) (c .before .before .before .before .before .before .before .before .before .before .if1 .left)) (c .before .before .before .before .before .before .before .before .if2 .left) (sym (c .before .before .before .before .before .before .entry-fault .ensures) ∙ c .before .before .before .before .before .if3 .left) _ p k (omega (arith, c .before .before .before .before .before .before .before .before .before .before .before .before .before .pre)) (ap (λ (v : ℕ). onlyOnce (c .before .before .before .before .before .before .before .before .before .before .before .before .before .args .e) (isMarked (c .before .before .before .before .before .before .before .before .before .before .before .before .before .args .seen .now) (v - 1))) (sym (c .before .before .before .before .node-of .ensures)) ∙ ap (onlyOnce (c .before .before .before .before .before .before .before .before .before .before .before .before .before .args .e)) (sym (c .before .before .marked .ensures)) ∙ sym (c .before .only-once .ensures) ∙ c .if4 .taken)
+returns-4 c = λ p k. data-twice (c .before .before .before .before .before .before .before .before .before .before .before .before .before .args .rules) (c .before .before .before .before .before .before .before .before .before .before .before .before .before .args .e) (c .before .before .before .before .before .before .before .before .before .before .before .before .before .args .st) (not-false (c .before .before .before .before .before .before .before .before .before .before .before .before .before .args .st .begun) (c .before .before .before .before .before .before .before .before .before .before .if1 .left)) (c .before .before .before .before .before .before .before .before .if2 .left) (sym (c .before .before .before .before .before .before .entry-fault .ensures) ∙ c .before .before .before .before .before .if3 .left) (c .before .before .before .before .before .before .before .before .before .before .before .before .before .args .seen .now) (omega (arith, c .before .before .before .before .before .before .before .before .before .before .before .before .before .pre)) (c .before .before .before .before .node-of .result) (c .before .before .before .before .node-of .ensures) (c .before .only-once .result) (c .before .only-once .ensures ∙ ap (onlyOnce (c .before .before .before .before .before .before .before .before .before .before .before .before .before .args .e)) (c .before .before .marked .ensures)) p k (c .if4 .taken)
 
 mark-requires : tie.Need-mark-requires
 mark-requires c κs = omega (arith, node-fine (c .before .before .before .before .before .before .before .before .before .before .before .before .before .before .args .rules .limits) (c .before .before .before .before .before .before .before .before .before .before .before .before .before .before .args .st .nodes) (c .before .before .before .before .before .before .before .before .before .before .before .before .before .before .args .e) (sym (c .before .before .before .before .before .before .before .entry-fault .ensures) ∙ c .before .before .before .before .before .before .if3 .left), c .before .before .before .before .before .node-of .ensures, c .before .before .before .before .before .before .before .before .before .before .before .before .before .before .pre)
@@ -50,7 +50,7 @@ same-length-2 : tie.Need-same-length-2
 same-length-2 c = search needs
 
 returns-5 : tie.Need-returns-5
-returns-5 c = λ p k. data-on (c .before .before .before .before .before .before .before .before .before .before .before .before .before .before .before .before .before .args .rules) (c .before .before .before .before .before .before .before .before .before .before .before .before .before .before .before .before .before .args .e) (c .before .before .before .before .before .before .before .before .before .before .before .before .before .before .before .before .before .args .st) (not-false (c .before .before .before .before .before .before .before .before .before .before .before .before .before .before .before .before .before .args .st .begun) (c .before .before .before .before .before .before .before .before .before .before .before .before .before .before .if1 .left)) (c .before .before .before .before .before .before .before .before .before .before .before .before .if2 .left) (sym (c .before .before .before .before .before .before .before .before .before .before .entry-fault .ensures) ∙ c .before .before .before .before .before .before .before .before .before .if3 .left) _ _ p k (omega (arith, c .before .before .before .before .before .before .before .before .before .before .before .before .before .before .before .before .before .pre)) (ap (λ (v : ℕ). onlyOnce (c .before .before .before .before .before .before .before .before .before .before .before .before .before .before .before .before .before .args .e) (isMarked (c .before .before .before .before .before .before .before .before .before .before .before .before .before .before .before .before .before .args .seen .now) (v - 1))) (sym (c .before .before .before .before .before .before .before .before .node-of .ensures)) ∙ ap (onlyOnce (c .before .before .before .before .before .before .before .before .before .before .before .before .before .before .before .before .before .args .e)) (sym (c .before .before .before .before .before .before .marked .ensures)) ∙ sym (c .before .before .before .before .before .only-once .ensures) ∙ c .before .before .before .before .if4 .left) (rw (← c .before .before .before .before .before .before .before .before .node-of .ensures) (c .before .before .mark .ensures))
+returns-5 c = λ p k. data-on (c .before .before .before .before .before .before .before .before .before .before .before .before .before .before .before .before .before .args .rules) (c .before .before .before .before .before .before .before .before .before .before .before .before .before .before .before .before .before .args .e) (c .before .before .before .before .before .before .before .before .before .before .before .before .before .before .before .before .before .args .st) (not-false (c .before .before .before .before .before .before .before .before .before .before .before .before .before .before .before .before .before .args .st .begun) (c .before .before .before .before .before .before .before .before .before .before .before .before .before .before .if1 .left)) (c .before .before .before .before .before .before .before .before .before .before .before .before .if2 .left) (sym (c .before .before .before .before .before .before .before .before .before .before .entry-fault .ensures) ∙ c .before .before .before .before .before .before .before .before .before .if3 .left) (c .before .before .before .before .before .before .before .before .before .before .before .before .before .before .before .before .before .args .seen .now) (omega (arith, c .before .before .before .before .before .before .before .before .before .before .before .before .before .before .before .before .before .pre)) (c .before .before .before .before .before .before .before .before .node-of .result) (c .before .before .before .before .before .before .before .before .node-of .ensures) (c .before .before .before .before .before .only-once .result) (c .before .before .before .before .before .only-once .ensures ∙ ap (onlyOnce (c .before .before .before .before .before .before .before .before .before .before .before .before .before .before .before .before .before .args .e)) (c .before .before .before .before .before .before .marked .ensures)) _ p k (c .before .before .before .before .if4 .left) (c .before .before .mark .ensures)
 
 pub added-spec : {M : Type 1} → statement M
 added-spec =
