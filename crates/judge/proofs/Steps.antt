@@ -116,8 +116,8 @@ module _ (R : Rules) (e : Entry) (s : State) where
           data-on seen′ (begun d es) k t a =
               rw (lt-leb (d .rows) (length es) (rw (k .state) at l), here d es (k .state), again es (k .tracks) ∙ t) (record {
                 state =
-                  ap (λ (t : State). record { begun = true; nodes = t .nodes; rows = t .rows; count = t .count + 1 }) (k .state)
-                  ∙ ap (λ (n : ℕ). record { begun = true; nodes = d .nodes; rows = d .rows; count = n }) (sym (length-append es (e ∷ [])));
+                    ap (λ (t : State). record { begun = true; nodes = t .nodes; rows = t .rows; count = t .count + 1 }) (k .state)
+                    ∙ ap (λ (n : ℕ). record { begun = true; nodes = d .nodes; rows = d .rows; count = n }) (sym (length-append es (e ∷ [])));
                 tracks = track-on seen es (k .tracks) seen′ e low (subst (λ (v : ℕ). Added seen (v - 1) seen′) node-is a);
                 few = k .few;
               })

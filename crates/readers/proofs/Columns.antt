@@ -1,14 +1,13 @@
 -- The second pass: what is left to write, written from here, is what the whole text writes.
-use Prim.Native.Nat.{ℕ, suc, _+_, _-_, _≤_, _<_}
+use Prim.Native.Nat.{ℕ, _+_, _-_, _≤_, _<_}
 use mathlib.Core.Path.{_≡_, refl, ap, sym, _∙_, subst}
-use mathlib.Core.List.{List, [], _∷_, map}
+use mathlib.Core.List.{List, [], map}
 use lib.IntN.{ℤ}
 use lib.ListN.{length, set, drop, length-set, drop-of-length-le}
 use lib.Seq.{sets}
 use native.Mathlib.Numerals.{add-one}
 use native.Mathlib.Omega.{arith}
-use Rattle.meaning.specs.Text.{lines, trim, fields}
-use Rattle.meaning.specs.Grammar.{lineOf}
+use Rattle.meaning.specs.Text.{lines}
 use Rattle.meaning.specs.Files.{nodeOf, headOf, weightOf, xOf, yOf, putAll}
 use Rattle.meaning.specs.declared.Kind.{Kind}
 use Rattle.meaning.specs.declared.Kind.the-variants.{Graph, Coordinates, Sites}
@@ -19,7 +18,7 @@ use Rattle.meaning.proofs.Reading.{withData, entriesOf}
 use Rattle.judge.specs.Said.{saidAt}
 use Rattle.judge.specs.declared.Said.{Said}
 use Rattle.judge.proofs.Lines.{line-is, next-high, lines-at}
-use Rattle.readers.specs.Writing.{OfData, nextPlace, putAt, putNode, All, ArcFits, SiteFits, InTable, SmallArc, SmallSite, ArcsFit, PointsFit, SitesFit}
+use Rattle.readers.specs.Writing.{OfData, nextPlace, putAt, putNode, All, ArcFits, SiteFits, InTable, SmallArc, SmallSite}
 
 -- the entries from a position on
 abbrev pub left : Kind → ℕ → List ℕ → ℕ → List Entry

@@ -1,6 +1,6 @@
 -- The outcome of each reader, from the answer of the first pass and what the second wrote.
-use Prim.Native.Nat.{ℕ, min, _≤_, _<_}
-use mathlib.Core.Path.{_≡_, refl, ap, sym, _∙_, subst}
+use Prim.Native.Nat.{ℕ, min, _≤_}
+use mathlib.Core.Path.{_≡_, ap, sym, _∙_, subst}
 use mathlib.Core.List.{List, [], _∷_, map}
 use lib.IntN.{ℤ}
 use lib.ListN.{length}
@@ -8,11 +8,10 @@ use lib.Seq.{sets}
 use native.Mathlib.Omega.{arith}
 use Rattle.meaning.specs.Limits.{base}
 use Rattle.meaning.specs.Text.{lines}
-use Rattle.meaning.specs.Files.{entryFault, reading, answered, read, inFront, byNode, putAll, nodeOf, headOf, weightOf, xOf, yOf, graphRules, coordinateRules, siteRules, graphReading, coordinateReading, siteReading, GraphRead, CoordinatesRead, SitesRead}
+use Rattle.meaning.specs.Files.{entryFault, reading, answered, inFront, byNode, putAll, nodeOf, headOf, weightOf, xOf, yOf, graphRules, coordinateRules, siteRules, graphReading, coordinateReading, siteReading, GraphRead, CoordinatesRead, SitesRead}
 use Rattle.meaning.specs.declared.Limits.{Limits}
 use Rattle.meaning.specs.declared.Kind.the-variants.{Graph, Coordinates, Sites}
 use Rattle.meaning.specs.declared.Rules.{Rules}
-use Rattle.meaning.specs.declared.Counts.{Counts}
 use Rattle.meaning.specs.declared.Entry.{Entry}
 use Rattle.meaning.specs.declared.Entry.the-variants.{Arc, Point, Site}
 use Rattle.meaning.specs.declared.Read.{Read}

@@ -25,8 +25,16 @@ fn head_of(e: Entry) -> usize
     ensures { λ r. ⌜ r ≡ headOf e ⌝ }
 {
     match e {
-        Entry::Arc { tail: _, head, weight: _ } => head,
-        Entry::Point { node: _, x: _, y: _ } => 0,
+        Entry::Arc {
+            tail: _,
+            head,
+            weight: _,
+        } => head,
+        Entry::Point {
+            node: _,
+            x: _,
+            y: _,
+        } => 0,
         Entry::Site { node: _ } => 0,
     }
 }
@@ -35,8 +43,16 @@ fn weight_of(e: Entry) -> usize
     ensures { λ r. ⌜ r ≡ weightOf e ⌝ }
 {
     match e {
-        Entry::Arc { tail: _, head: _, weight } => weight,
-        Entry::Point { node: _, x: _, y: _ } => 0,
+        Entry::Arc {
+            tail: _,
+            head: _,
+            weight,
+        } => weight,
+        Entry::Point {
+            node: _,
+            x: _,
+            y: _,
+        } => 0,
         Entry::Site { node: _ } => 0,
     }
 }
@@ -45,7 +61,11 @@ fn x_of(e: Entry) -> i32
     ensures { λ r. ⌜ r ≡ xOf e ⌝ }
 {
     match e {
-        Entry::Arc { tail: _, head: _, weight: _ } => 0,
+        Entry::Arc {
+            tail: _,
+            head: _,
+            weight: _,
+        } => 0,
         Entry::Point { node: _, x, y: _ } => x,
         Entry::Site { node: _ } => 0,
     }
@@ -55,7 +75,11 @@ fn y_of(e: Entry) -> i32
     ensures { λ r. ⌜ r ≡ yOf e ⌝ }
 {
     match e {
-        Entry::Arc { tail: _, head: _, weight: _ } => 0,
+        Entry::Arc {
+            tail: _,
+            head: _,
+            weight: _,
+        } => 0,
         Entry::Point { node: _, x: _, y } => y,
         Entry::Site { node: _ } => 0,
     }
@@ -173,7 +197,10 @@ pub fn read_graph(text: &[u8], tails: &mut [u16], heads: &mut [u16], weights: &m
             write_arcs(text, tails, heads, weights);
             answer
         }
-        Read::Refused { number: _, place: _ } => answer,
+        Read::Refused {
+            number: _,
+            place: _,
+        } => answer,
     }
 }
 
@@ -188,7 +215,10 @@ pub fn read_coordinates(text: &[u8], nodes: usize, xs: &mut [i32], ys: &mut [i32
             write_points(text, nodes, xs, ys);
             answer
         }
-        Read::Refused { number: _, place: _ } => answer,
+        Read::Refused {
+            number: _,
+            place: _,
+        } => answer,
     }
 }
 
@@ -202,6 +232,9 @@ pub fn read_sites(text: &[u8], nodes: usize, sites: &mut [u16]) -> Read
             write_sites(text, nodes, sites);
             answer
         }
-        Read::Refused { number: _, place: _ } => answer,
+        Read::Refused {
+            number: _,
+            place: _,
+        } => answer,
     }
 }
