@@ -14,19 +14,42 @@ most-rows-requires : tie.Need-most-rows-requires
 most-rows-requires c κs = search needs
 
 returns-2 : tie.Need-returns-2
-returns-2 c = rw (sym (c .before .before .before .before .within .ensures) ∙ not-false (c .before .before .before .before .within .result) (c .before .before .before .if1 .left), ← c .before .before .most-rows .ensures, lt-leb _ _ (c .if2 .taken))
+returns-2 c =
+    let most-rows = c .before .before in
+    let if1 = most-rows .before in
+    let within = if1 .before in
+    rw (sym (within .within .ensures) ∙ not-false (within .within .result) (if1 .if1 .left), ← most-rows .most-rows .ensures, lt-leb _ _ (c .if2 .taken))
 
 agrees-requires : tie.Need-agrees-requires
 agrees-requires c κs = search needs
 
 returns-3 : tie.Need-returns-3
-returns-3 c = rw (sym (c .before .before .before .before .before .before .within .ensures) ∙ not-false (c .before .before .before .before .before .before .within .result) (c .before .before .before .before .before .if1 .left), ← c .before .before .before .before .most-rows .ensures, le-leb _ _ (c .before .before .if2 .left), sym (c .before .agrees .ensures) ∙ not-true (c .before .agrees .result) (c .if3 .taken))
+returns-3 c =
+    let if2 = c .before .before in
+    let most-rows = if2 .before .before in
+    let if1 = most-rows .before in
+    let within = if1 .before in
+    rw (sym (within .within .ensures) ∙ not-false (within .within .result) (if1 .if1 .left), ← most-rows .most-rows .ensures, le-leb _ _ (if2 .if2 .left), sym (c .before .agrees .ensures) ∙ not-true (c .before .agrees .result) (c .if3 .taken))
 
 returns-4 : tie.Need-returns-4
-returns-4 c = rw (sym (c .before .before .before .before .before .before .before .before .before .within .ensures) ∙ not-false (c .before .before .before .before .before .before .before .before .before .within .result) (c .before .before .before .before .before .before .before .before .if1 .left), ← c .before .before .before .before .before .before .before .most-rows .ensures, le-leb _ _ (c .before .before .before .before .before .if2 .left), sym (c .before .before .before .before .agrees .ensures) ∙ not-false (c .before .before .before .before .agrees .result) (c .before .before .before .if3 .left), le-leb _ _ (c .if4 .taken))
+returns-4 c =
+    let if3 = c .before .before .before in
+    let agrees = if3 .before in
+    let if2 = agrees .before in
+    let most-rows = if2 .before .before in
+    let if1 = most-rows .before in
+    let within = if1 .before in
+    rw (sym (within .within .ensures) ∙ not-false (within .within .result) (if1 .if1 .left), ← most-rows .most-rows .ensures, le-leb _ _ (if2 .if2 .left), sym (agrees .agrees .ensures) ∙ not-false (agrees .agrees .result) (if3 .if3 .left), le-leb _ _ (c .if4 .taken))
 
 returns-5 : tie.Need-returns-5
-returns-5 c = rw (sym (c .before .before .before .before .before .before .before .before .before .within .ensures) ∙ not-false (c .before .before .before .before .before .before .before .before .before .within .result) (c .before .before .before .before .before .before .before .before .if1 .left), ← c .before .before .before .before .before .before .before .most-rows .ensures, le-leb _ _ (c .before .before .before .before .before .if2 .left), sym (c .before .before .before .before .agrees .ensures) ∙ not-false (c .before .before .before .before .agrees .result) (c .before .before .before .if3 .left), lt-leb _ _ (c .if4 .left))
+returns-5 c =
+    let if3 = c .before .before .before in
+    let agrees = if3 .before in
+    let if2 = agrees .before in
+    let most-rows = if2 .before .before in
+    let if1 = most-rows .before in
+    let within = if1 .before in
+    rw (sym (within .within .ensures) ∙ not-false (within .within .result) (if1 .if1 .left), ← most-rows .most-rows .ensures, le-leb _ _ (if2 .if2 .left), sym (agrees .agrees .ensures) ∙ not-false (agrees .agrees .result) (if3 .if3 .left), lt-leb _ _ (c .if4 .left))
 
 pub counts-fault-spec : {M : Type 1} → statement M
 counts-fault-spec =

@@ -26,7 +26,10 @@ returns : tie.Need-returns
 returns c = rw (c .before .before .e .given .1) (c .arc-fault .ensures)
 
 returns-2 : tie.Need-returns-2
-returns-2 c = rw (c .before .before .e2 .given .1) (c .point-fault .ensures ∙ held-both (c .before .before .before .before .args .limits) (c .before .before .before .before .args .n) (c .before .before .e2 .given .0 .0) (c .before .before .e2 .given .0 .1 .0) (c .before .before .e2 .given .0 .1 .1 .0) (record { sfits = c .before .known-told2 .given .1 .0 .1 }) (record { sfits = c .before .known-told2 .given .1 .1 .0 .1 }))
+returns-2 c =
+    let e2 = c .before .before in
+    let start = e2 .before .before in
+    rw (e2 .e2 .given .1) (c .point-fault .ensures ∙ held-both (start .args .limits) (start .args .n) (e2 .e2 .given .0 .0) (e2 .e2 .given .0 .1 .0) (e2 .e2 .given .0 .1 .1 .0) (record { sfits = c .before .known-told2 .given .1 .0 .1 }) (record { sfits = c .before .known-told2 .given .1 .1 .0 .1 }))
 
 returns-3 : tie.Need-returns-3
 returns-3 c = rw (c .before .before .before .e3 .given .1, sym (c .before .within .ensures) ∙ c .if1 .taken)

@@ -27,7 +27,10 @@ slice-aggregate-advanced : tie.Need-slice-aggregate-advanced Inv-loop μ-loop
 slice-aggregate-advanced c = sym (c .before .before .before .loop .inv .size)
 
 advanced-requires : tie.Need-advanced-requires Inv-loop μ-loop
-advanced-requires c κs = omega (arith, c .before .before .before .loop .inv .size, c .before .before .before .loop .inv .keeps .few, c .before .before .before .before .before .pre)
+advanced-requires c κs =
+    let loop = c .before .before .before in
+    let start = loop .before .before in
+    omega (arith, loop .loop .inv .size, loop .loop .inv .keeps .few, start .pre)
 
 enum-known-next : tie.Need-enum-known-next Inv-loop μ-loop
 enum-known-next c = search needs
@@ -36,19 +39,39 @@ enum-known-number : tie.Need-enum-known-number Inv-loop μ-loop
 enum-known-number c = search needs
 
 returns : tie.Need-returns Inv-loop μ-loop
-returns c = judged-stop (c .before .before .before .before .before .before .before .before .before .before .args .rules) (c .before .before .before .before .before .before .before .before .before .before .args .text .now) (c .before .before .before .before .before .before .before .before .loop .seen) (c .before .before .before .before .before .before .before .before .loop .st) (c .before .before .before .before .before .before .before .before .loop .at) (c .before .before .before .before .before .before .before .before .loop .place) (c .before .before .before .before .before .before .before .before .loop .inv) (c .before .before .before .before .before .before .before .loop-test .taken) (c .before .before .before .before .before .before .said-at .result) (c .before .before .before .before .before .before .said-at .ensures) _ _ (rw (c .before .number .given .1) at (c .before .before .before .before .advanced .ensures (c .before .before .before .before .before .before .before .before .loop .inv .progress) (c .before .before .before .before .before .before .before .before .loop .inv .keeps)))
+returns c =
+    let advanced = c .before .before .before .before in
+    let said-at = advanced .before .before in
+    let test = said-at .before in
+    let loop = test .before in
+    let start = loop .before .before in
+    judged-stop (start .args .rules) (start .args .text .now) (loop .loop .seen) (loop .loop .st) (loop .loop .at) (loop .loop .place) (loop .loop .inv) (test .loop-test .taken) (said-at .said-at .result) (said-at .said-at .ensures) _ _ (rw (c .before .number .given .1) at (advanced .advanced .ensures (loop .loop .inv .progress) (loop .loop .inv .keeps)))
 
 loop-less : tie.Need-loop-less Inv-loop μ-loop
-loop-less c = omega (arith, ap (λ (s : Said). s .next) (c .before .before .before .before .before .before .said-at .ensures), next-low (c .before .before .before .before .before .before .before .before .before .before .args .rules .kind) (c .before .before .before .before .before .before .before .before .before .before .args .rules .given) (c .before .before .before .before .before .before .before .before .before .before .args .text .now) (c .before .before .before .before .before .before .before .before .loop .at) (c .before .before .before .before .before .before .before .loop-test .taken), c .before .before .before .before .before .before .before .before .loop .inv .high)
+loop-less c =
+    let said-at = c .before .before .before .before .before .before in
+    let test = said-at .before in
+    let loop = test .before in
+    let start = loop .before .before in
+    omega (arith, ap (λ (s : Said). s .next) (said-at .said-at .ensures), next-low (start .args .rules .kind) (start .args .rules .given) (start .args .text .now) (loop .loop .at) (test .loop-test .taken), loop .loop .inv .high)
 
 loop-again : tie.Need-loop-again Inv-loop μ-loop
-loop-again c = judged-on (c .before .before .before .before .before .before .before .before .before .before .args .rules) (c .before .before .before .before .before .before .before .before .before .before .args .text .now) (c .before .before .before .before .before .before .before .before .loop .seen) (c .before .before .before .before .before .before .before .before .loop .st) (c .before .before .before .before .before .before .before .before .loop .at) (c .before .before .before .before .before .before .before .before .loop .place) (c .before .before .before .before .before .before .before .before .loop .inv) (c .before .before .before .before .before .before .before .loop-test .taken) (c .before .before .before .before .before .before .said-at .result) (c .before .before .before .before .before .before .said-at .ensures) _ _ (c .before .before .before .before .advanced .kept .1 .1 .0 ∙ c .before .before .before .before .before .before .before .before .loop .inv .size) (rw (c .before .next .given .1) at (c .before .before .before .before .advanced .ensures (c .before .before .before .before .before .before .before .before .loop .inv .progress) (c .before .before .before .before .before .before .before .before .loop .inv .keeps)))
+loop-again c =
+    let advanced = c .before .before .before .before in
+    let said-at = advanced .before .before in
+    let test = said-at .before in
+    let loop = test .before in
+    let start = loop .before .before in
+    judged-on (start .args .rules) (start .args .text .now) (loop .loop .seen) (loop .loop .st) (loop .loop .at) (loop .loop .place) (loop .loop .inv) (test .loop-test .taken) (said-at .said-at .result) (said-at .said-at .ensures) _ _ (advanced .advanced .kept .1 .1 .0 ∙ loop .loop .inv .size) (rw (c .before .next .given .1) at (advanced .advanced .ensures (loop .loop .inv .progress) (loop .loop .inv .keeps)))
 
 finished-requires : tie.Need-finished-requires Inv-loop μ-loop
 finished-requires c κs = search needs
 
 returns-2 : tie.Need-returns-2 Inv-loop μ-loop
-returns-2 c = c .finished .ensures (c .before .before .loop .inv .progress) (c .before .before .loop .inv .keeps .state) ∙ judged-end (c .before .before .before .before .args .rules) (c .before .before .before .before .args .text .now) (c .before .before .loop .seen) (c .before .before .loop .st) (c .before .before .loop .at) (c .before .before .loop .place) (c .before .before .loop .inv) (c .before .loop-test .left)
+returns-2 c =
+    let loop = c .before .before in
+    let start = loop .before .before in
+    c .finished .ensures (loop .loop .inv .progress) (loop .loop .inv .keeps .state) ∙ judged-end (start .args .rules) (start .args .text .now) (loop .loop .seen) (loop .loop .st) (loop .loop .at) (loop .loop .place) (loop .loop .inv) (c .before .loop-test .left)
 
 pub judge-spec : {M : Type 1} → statement M
 judge-spec =

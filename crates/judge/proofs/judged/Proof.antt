@@ -11,19 +11,31 @@ base-requires : tie.Need-base-requires
 base-requires c κs = search needs
 
 returns : tie.Need-returns
-returns c = too-long (c .before .before .base .result) (c .before .before .base .ensures) (c .before .before .before .before .args .kind) (c .before .before .before .before .args .given) (c .before .before .before .before .args .room) (c .before .before .before .before .args .text .now) (c .if1 .taken)
+returns c =
+    let base = c .before .before in
+    let start = base .before .before in
+    too-long (base .base .result) (base .base .ensures) (start .args .kind) (start .args .given) (start .args .room) (start .args .text .now) (c .if1 .taken)
 
 handed-in-requires : tie.Need-handed-in-requires
 handed-in-requires c κs = search needs
 
 returns-2 : tie.Need-returns-2
-returns-2 c = not-handed (c .before .before .before .before .base .result) (c .before .before .before .before .base .ensures) (c .before .before .before .before .before .before .args .kind) (c .before .before .before .before .before .before .args .given) (c .before .before .before .before .before .before .args .room) (c .before .before .before .before .before .before .args .text .now) (c .before .before .if1 .left) (sym (c .before .handed-in .ensures) ∙ not-true (c .before .handed-in .result) (c .if2 .taken))
+returns-2 c =
+    let if1 = c .before .before in
+    let base = if1 .before .before in
+    let start = base .before .before in
+    not-handed (base .base .result) (base .base .ensures) (start .args .kind) (start .args .given) (start .args .room) (start .args .text .now) (if1 .if1 .left) (sym (c .before .handed-in .ensures) ∙ not-true (c .before .handed-in .result) (c .if2 .taken))
 
 judge-requires : tie.Need-judge-requires
 judge-requires c κs = omega (arith, ap (λ (L : Limits). L .nodes) (c .before .before .before .before .base .ensures))
 
 returns-3 : tie.Need-returns-3
-returns-3 c = lines-judged (c .before .before .before .before .before .base .result) (c .before .before .before .before .before .base .ensures) (c .before .before .before .before .before .before .before .args .kind) (c .before .before .before .before .before .before .before .args .given) (c .before .before .before .before .before .before .before .args .room) (c .before .before .before .before .before .before .before .args .text .now) (c .judge .result) (c .before .before .before .if1 .left) (sym (c .before .before .handed-in .ensures) ∙ not-false (c .before .before .handed-in .result) (c .before .if2 .left)) (c .judge .ensures)
+returns-3 c =
+    let handed-in = c .before .before in
+    let if1 = handed-in .before in
+    let base = if1 .before .before in
+    let start = base .before .before in
+    lines-judged (base .base .result) (base .base .ensures) (start .args .kind) (start .args .given) (start .args .room) (start .args .text .now) (c .judge .result) (if1 .if1 .left) (sym (handed-in .handed-in .ensures) ∙ not-false (handed-in .handed-in .result) (c .before .if2 .left)) (c .judge .ensures)
 
 pub judged-spec : {M : Type 1} → statement M
 judged-spec =
