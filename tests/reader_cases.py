@@ -104,7 +104,7 @@ def read(kind, text, handed, room):
 def digest(table):
     sum_ = 0
     for value in table:
-        sum_ = (sum_ * 31 + value % 1000003) % 1000003
+        sum_ = (sum_ * 31 + (value if value >= 0 else 500000000 - value) % 1000003) % 1000003
     return sum_
 
 

@@ -42,7 +42,7 @@ fn within(lo: usize, x: usize, hi: usize) -> bool
 }
 
 // A coordinate's size. The least i32 has no negative in an i32.
-fn size(z: i32) -> usize
+pub fn size(z: i32) -> usize
     ensures { λ r. ⌜ r ≡ natAbs z ⌝ }
 {
     let wide = z as i64;
