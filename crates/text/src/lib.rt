@@ -2,7 +2,7 @@
 ghost use mathlib.Core.Path.{_≡_};
 ghost use Rattle.meaning.specs.Text.{trim, isBlank, fields, first, others, none, same as sameBytes, number as numberOf, plus, minus, signed as signedOf};
 ghost use Rattle.text.specs.Scan.{run, inLine, isInk, lead as leadOf, Below};
-ghost use Rattle.text.specs.Read.{pieceAt};
+ghost use Rattle.text.specs.Read.{pieceAt, pastOf, movedTo};
 use meaning::Number;
 use meaning::Signed;
 
@@ -51,18 +51,33 @@ fn open<'a>(text: &'a [u8], at: usize) -> Lines<'a>
     Lines { text, at }
 }
 
-// The line that a reader stands at.
-fn next<'a>(r: Lines<'a>) -> Piece
-    ensures { λ s. ⌜ s ≡ pieceAt (now (r .entry .text)) (r .entry .at) ⌝ }
+// Where a reader stands after a piece that it found at a position.
+fn past(p: Piece, at: usize) -> usize
+    ensures { λ r. ⌜ r ≡ pastOf p at ⌝ }
 {
-    piece_at(r.text, r.at)
+    match p {
+        Piece::Line(_, _, next) => next,
+        Piece::End => at,
+    }
+}
+
+// The line that the reader stands at; the reader goes on past it.
+fn next<'s, 'a>(r: &'s mut Lines<'a>) -> Piece
+    ensures { λ p. ⌜ (p ≡ pieceAt (now (now (r .entry) .text)) (now (r .entry) .at)) × (now (r .exit) ≡ movedTo (now (r .entry)) (pastOf p (now (r .entry) .at))) ⌝ }
+{
+    let text = r.text;
+    let at = r.at;
+    let p = piece_at(text, at);
+    r.at = past(p, at);
+    p
 }
 
 // The line at a position, by the reader: with plain parameters, for a loop over a text.
 pub fn line_at(s: &[u8], at: usize) -> Piece
     ensures { λ r. ⌜ r ≡ pieceAt (now (s .entry)) at ⌝ }
 {
-    next(open(s, at))
+    let mut r = open(s, at);
+    next(&mut r)
 }
 
 // A line without one CR at its end.
