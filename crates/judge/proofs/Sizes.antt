@@ -21,7 +21,7 @@ wideOf z = toZ w64 (ofZ w64 (toZ w32 (ofZ w32 z)))
 abbrev pub lessOf : ℤ → ℤ
 lessOf z = toZ w64 (ofZ w64 (pos 0 -ℤ wideOf z))
 
-not-both : false ≡ true → ⊥
+pub not-both : false ≡ true → ⊥
 not-both e = let z : _≡_ {A = ℕ} 0 1 = cc in omega arith
 
 module _ (z : ℤ) (f : SFits w32 z) where

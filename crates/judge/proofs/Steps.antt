@@ -15,13 +15,11 @@ use Rattle.meaning.specs.declared.Entry.{Entry}
 use Rattle.meaning.specs.declared.Entry.the-variants.{Arc, Point, Site}
 use Rattle.meaning.specs.declared.Line.the-variants.{Problem, Data}
 use Rattle.meaning.specs.declared.Read.the-variants.{Refused, Accepted}
+use Rattle.judge.proofs.Sizes.{not-both}
 use Rattle.judge.specs.Marks.{isMarked, Added}
 use Rattle.judge.specs.Follows.{stateOf, onlyOnce, Tracks, Keeps, Follows}
 use Rattle.judge.specs.declared.State.{State}
 use Rattle.judge.specs.declared.Step.the-variants.{On, Stop}
-
-not-both : false ≡ true → ⊥
-not-both e = let z : _≡_ {A = ℕ} 0 1 = cc in omega arith
 
 counts-few : (R : Rules) (c : Counts) → countsFault R c ≡ 0 → c .nodes ≤ R .limits .nodes
 counts-few R c h =

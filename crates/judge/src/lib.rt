@@ -1,15 +1,14 @@
 // Judges a text: its size, the N handed in, and its lines in order. Nothing is written but the marks of the nodes given.
 ghost use mathlib.Core.Path.{_≡_};
 ghost use mathlib.Core.List.{List};
-ghost use Prim.Native.Nat.{ℕ, _*_, _≤_, _<_};
+ghost use Prim.Native.Nat.{ℕ, _*_, _≤_};
 ghost use lib.ListN.{length};
 ghost use lib.IntN.{natAbs};
 ghost use Rattle.meaning.specs.Limits.{base};
 ghost use Rattle.meaning.specs.Files.{Progress, within as isWithin, isCoordinate, mostRows, agrees as isAgreed, countsFault, entryFault, nodeOf, step, readFrom, handedIn, reading, answered, finish};
 ghost use Rattle.meaning.specs.Text.{lines};
-ghost use Rattle.judge.specs.Marks.{isMarked};
 ghost use Rattle.judge.specs.Said.{saidAt};
-ghost use Rattle.judge.specs.Follows.{stateOf, entriesSince, onlyOnce, Tracks, Keeps, Follows};
+ghost use Rattle.judge.specs.Follows.{stateOf, onlyOnce, Keeps, Follows};
 use meaning::Counts;
 use meaning::Entry;
 use meaning::Kind;
@@ -22,17 +21,23 @@ use text::Piece;
 mod marks;
 
 // How far the lines have been judged: whether the problem line has been, its counts, and the data lines since.
-pub struct State {
-    pub begun: bool,
-    pub nodes: usize,
-    pub rows: usize,
-    pub count: usize,
+struct State {
+    begun: bool,
+    nodes: usize,
+    rows: usize,
+    count: usize,
 }
 
 // After a line: on, or a refusal's number.
-pub enum Step {
+enum Step {
     On(State),
     Stop(usize),
+}
+
+// What a line says, and where the next starts.
+pub struct Said {
+    pub line: Line,
+    pub next: usize,
 }
 
 fn within(lo: usize, x: usize, hi: usize) -> bool
@@ -140,12 +145,8 @@ pub fn node_of(e: Entry) -> usize
     ensures { λ r. ⌜ r ≡ nodeOf e ⌝ }
 {
     match e {
-        Entry::Arc {
-            tail,
-            head: _,
-            weight: _,
-        } => tail,
-        Entry::Point { node, x: _, y: _ } => node,
+        Entry::Arc { tail, .. } => tail,
+        Entry::Point { node, .. } => node,
         Entry::Site { node } => node,
     }
 }
@@ -154,17 +155,9 @@ fn only_once(e: Entry, given: bool) -> bool
     ensures { λ r. ⌜ r ≡ onlyOnce e given ⌝ }
 {
     match e {
-        Entry::Arc {
-            tail: _,
-            head: _,
-            weight: _,
-        } => false,
-        Entry::Point {
-            node: _,
-            x: _,
-            y: _,
-        } => given,
-        Entry::Site { node: _ } => given,
+        Entry::Arc { .. } => false,
+        Entry::Point { .. } => given,
+        Entry::Site { .. } => given,
     }
 }
 
@@ -263,12 +256,6 @@ fn handed_in(limits: Limits, kind: Kind, n: usize) -> bool
         Kind::Coordinates => within(1, n, limits.nodes),
         Kind::Sites => within(1, n, limits.nodes),
     }
-}
-
-// What a line says, and where the next starts.
-pub struct Said {
-    pub line: Line,
-    pub next: usize,
 }
 
 // What the line that starts at a position says.

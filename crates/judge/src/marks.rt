@@ -1,6 +1,6 @@
 // A set of node numbers less one, as bits: 32 to a word.
 ghost use mathlib.Core.Path.{_≡_};
-ghost use Prim.Native.Nat.{ℕ, _*_, _<_};
+ghost use Prim.Native.Nat.{_*_, _<_};
 ghost use lib.ListN.{length};
 ghost use Rattle.judge.specs.Marks.{isMarked, Added};
 

@@ -1,7 +1,7 @@
 // The three readers: a text is judged whole before a table is written.
 ghost use mathlib.Core.Path.{_≡_};
 ghost use mathlib.Core.List.{map};
-ghost use Prim.Native.Nat.{ℕ, min, _≤_, _<_};
+ghost use Prim.Native.Nat.{min};
 ghost use lib.ListN.{length};
 ghost use lib.Seq.{sets};
 ghost use Rattle.meaning.specs.Limits.{base};
@@ -25,17 +25,9 @@ fn head_of(e: Entry) -> usize
     ensures { λ r. ⌜ r ≡ headOf e ⌝ }
 {
     match e {
-        Entry::Arc {
-            tail: _,
-            head,
-            weight: _,
-        } => head,
-        Entry::Point {
-            node: _,
-            x: _,
-            y: _,
-        } => 0,
-        Entry::Site { node: _ } => 0,
+        Entry::Arc { head, .. } => head,
+        Entry::Point { .. } => 0,
+        Entry::Site { .. } => 0,
     }
 }
 
@@ -43,17 +35,9 @@ fn weight_of(e: Entry) -> usize
     ensures { λ r. ⌜ r ≡ weightOf e ⌝ }
 {
     match e {
-        Entry::Arc {
-            tail: _,
-            head: _,
-            weight,
-        } => weight,
-        Entry::Point {
-            node: _,
-            x: _,
-            y: _,
-        } => 0,
-        Entry::Site { node: _ } => 0,
+        Entry::Arc { weight, .. } => weight,
+        Entry::Point { .. } => 0,
+        Entry::Site { .. } => 0,
     }
 }
 
@@ -61,13 +45,9 @@ fn x_of(e: Entry) -> i32
     ensures { λ r. ⌜ r ≡ xOf e ⌝ }
 {
     match e {
-        Entry::Arc {
-            tail: _,
-            head: _,
-            weight: _,
-        } => 0,
-        Entry::Point { node: _, x, y: _ } => x,
-        Entry::Site { node: _ } => 0,
+        Entry::Arc { .. } => 0,
+        Entry::Point { x, .. } => x,
+        Entry::Site { .. } => 0,
     }
 }
 
@@ -75,13 +55,9 @@ fn y_of(e: Entry) -> i32
     ensures { λ r. ⌜ r ≡ yOf e ⌝ }
 {
     match e {
-        Entry::Arc {
-            tail: _,
-            head: _,
-            weight: _,
-        } => 0,
-        Entry::Point { node: _, x: _, y } => y,
-        Entry::Site { node: _ } => 0,
+        Entry::Arc { .. } => 0,
+        Entry::Point { y, .. } => y,
+        Entry::Site { .. } => 0,
     }
 }
 
@@ -193,14 +169,11 @@ pub fn read_graph(text: &[u8], tails: &mut [u16], heads: &mut [u16], weights: &m
     let room = least(tails.len(), least(heads.len(), weights.len()));
     let answer = judge::judged(Kind::Graph, 0, room, text);
     match answer {
-        Read::Accepted { nodes: _, rows: _ } => {
+        Read::Accepted { .. } => {
             write_arcs(text, tails, heads, weights);
             answer
         }
-        Read::Refused {
-            number: _,
-            place: _,
-        } => answer,
+        Read::Refused { .. } => answer,
     }
 }
 
@@ -211,14 +184,11 @@ pub fn read_coordinates(text: &[u8], nodes: usize, xs: &mut [i32], ys: &mut [i32
     let room = least(xs.len(), ys.len());
     let answer = judge::judged(Kind::Coordinates, nodes, room, text);
     match answer {
-        Read::Accepted { nodes: _, rows: _ } => {
+        Read::Accepted { .. } => {
             write_points(text, nodes, xs, ys);
             answer
         }
-        Read::Refused {
-            number: _,
-            place: _,
-        } => answer,
+        Read::Refused { .. } => answer,
     }
 }
 
@@ -228,13 +198,10 @@ pub fn read_sites(text: &[u8], nodes: usize, sites: &mut [u16]) -> Read
 {
     let answer = judge::judged(Kind::Sites, nodes, sites.len(), text);
     match answer {
-        Read::Accepted { nodes: _, rows: _ } => {
+        Read::Accepted { .. } => {
             write_sites(text, nodes, sites);
             answer
         }
-        Read::Refused {
-            number: _,
-            place: _,
-        } => answer,
+        Read::Refused { .. } => answer,
     }
 }

@@ -17,7 +17,7 @@ returns-2 : tie.Need-returns-2
 returns-2 c =
     let if1 = c .before .before in
     let start = if1 .before .before .before in
-    λ p k. data-many (start .args .rules) (start .args .e) (start .args .st) (not-false (start .args .st .begun) (if1 .if1 .left)) _ p (k .state) (c .if2 .taken)
+    λ p k. data-many (start .args .rules) (start .args .e) (start .args .st) (not-false (start .args .st .begun) (if1 .if1 .left)) _ p (k .state) (omega (arith, c .if2 .taken))
 
 entry-fault-requires : tie.Need-entry-fault-requires
 entry-fault-requires c κs = search needs
