@@ -58,7 +58,7 @@ fn wider(x: u32) -> u64 {
 
 // A coordinate's size, and more where it lies below 0.
 fn lifted(z: i32) -> u64 {
-    let size = (judge::size(z) % 4294967296) as u64;
+    let size = (reading::size(z) % 4294967296) as u64;
     if z < 0 { size + 500000000 } else { size }
 }
 

@@ -15,9 +15,9 @@ use Rattle.meaning.specs.declared.Entry.{Entry}
 use Rattle.meaning.specs.declared.Line.{Line}
 use Rattle.meaning.specs.declared.Line.the-variants.{Nothing, Problem, Data, Malformed}
 use Rattle.meaning.proofs.Reading.{withData, entriesOf}
-use Rattle.judge.specs.Said.{saidAt}
-use Rattle.judge.specs.declared.Said.{Said}
-use Rattle.judge.proofs.Lines.{line-is, next-high, lines-at}
+use Rattle.reading.specs.Said.{saidAt}
+use Rattle.reading.specs.declared.Said.{Said}
+use Rattle.reading.proofs.Lines.{line-is, next-high, lines-at}
 use Rattle.readers.specs.Writing.{OfData, nextPlace, putAt, putNode, All, ArcFits, SiteFits, InTable, SmallArc, SmallSite}
 
 -- the entries from a position on

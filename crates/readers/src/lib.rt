@@ -71,7 +71,7 @@ fn put_arc(line: Line, i: usize, tails: &mut [u16], heads: &mut [u16], weights: 
         Line::Nothing => i,
         Line::Problem(_) => i,
         Line::Data(e) => {
-            tails[i] = judge::node_of(e) as u16;
+            tails[i] = reading::node_of(e) as u16;
             heads[i] = head_of(e) as u16;
             weights[i] = weight_of(e) as u32;
             i + 1
@@ -89,7 +89,7 @@ fn put_point(line: Line, xs: &mut [i32], ys: &mut [i32])
         Line::Nothing => {}
         Line::Problem(_) => {}
         Line::Data(e) => {
-            let k = judge::node_of(e) - 1;
+            let k = reading::node_of(e) - 1;
             let x = x_of(e);
             let y = y_of(e);
             xs[k] = x;
@@ -108,7 +108,7 @@ fn put_site(line: Line, i: usize, sites: &mut [u16]) -> usize
         Line::Nothing => i,
         Line::Problem(_) => i,
         Line::Data(e) => {
-            sites[i] = judge::node_of(e) as u16;
+            sites[i] = reading::node_of(e) as u16;
             i + 1
         }
         Line::Malformed => i,
@@ -125,7 +125,7 @@ fn write_arcs(text: &[u8], tails: &mut [u16], heads: &mut [u16], weights: &mut [
     let mut at = 0;
     let mut i = 0;
     while at < text.len() {
-        let said = judge::said_at(Kind::Graph, 0, text, at);
+        let said = reading::said_at(Kind::Graph, 0, text, at);
         let line = said.line;
         i = put_arc(line, i, tails, heads, weights);
         at = said.next;
@@ -140,7 +140,7 @@ fn write_points(text: &[u8], nodes: usize, xs: &mut [i32], ys: &mut [i32])
 {
     let mut at = 0;
     while at < text.len() {
-        let said = judge::said_at(Kind::Coordinates, nodes, text, at);
+        let said = reading::said_at(Kind::Coordinates, nodes, text, at);
         let line = said.line;
         put_point(line, xs, ys);
         at = said.next;
@@ -155,7 +155,7 @@ fn write_sites(text: &[u8], nodes: usize, sites: &mut [u16])
     let mut at = 0;
     let mut i = 0;
     while at < text.len() {
-        let said = judge::said_at(Kind::Sites, nodes, text, at);
+        let said = reading::said_at(Kind::Sites, nodes, text, at);
         let line = said.line;
         i = put_site(line, i, sites);
         at = said.next;
@@ -167,7 +167,7 @@ pub fn read_graph(text: &[u8], tails: &mut [u16], heads: &mut [u16], weights: &m
     ensures { λ r. ⌜ GraphRead base (now (text .entry)) (now (tails .entry)) (now (heads .entry)) (now (weights .entry)) (now (tails .exit)) (now (heads .exit)) (now (weights .exit)) r ⌝ }
 {
     let room = least(tails.len(), least(heads.len(), weights.len()));
-    let answer = judge::judged(Kind::Graph, 0, room, text);
+    let answer = reading::judged(Kind::Graph, 0, room, text);
     match answer {
         Read::Accepted { .. } => {
             write_arcs(text, tails, heads, weights);
@@ -182,7 +182,7 @@ pub fn read_coordinates(text: &[u8], nodes: usize, xs: &mut [i32], ys: &mut [i32
     ensures { λ r. ⌜ CoordinatesRead base (now (text .entry)) nodes (now (xs .entry)) (now (ys .entry)) (now (xs .exit)) (now (ys .exit)) r ⌝ }
 {
     let room = least(xs.len(), ys.len());
-    let answer = judge::judged(Kind::Coordinates, nodes, room, text);
+    let answer = reading::judged(Kind::Coordinates, nodes, room, text);
     match answer {
         Read::Accepted { .. } => {
             write_points(text, nodes, xs, ys);
@@ -196,7 +196,7 @@ pub fn read_coordinates(text: &[u8], nodes: usize, xs: &mut [i32], ys: &mut [i32
 pub fn read_sites(text: &[u8], nodes: usize, sites: &mut [u16]) -> Read
     ensures { λ r. ⌜ SitesRead base (now (text .entry)) nodes (now (sites .entry)) (now (sites .exit)) r ⌝ }
 {
-    let answer = judge::judged(Kind::Sites, nodes, sites.len(), text);
+    let answer = reading::judged(Kind::Sites, nodes, sites.len(), text);
     match answer {
         Read::Accepted { .. } => {
             write_sites(text, nodes, sites);

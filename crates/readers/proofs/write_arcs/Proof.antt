@@ -1,7 +1,7 @@
 use Rattle.meaning.specs.Files.{nodeOf, headOf, weightOf}
 use Rattle.meaning.specs.declared.Kind.the-variants.{Graph}
-use Rattle.judge.specs.declared.Said.{Said}
-use Rattle.judge.proofs.Lines.{next-low}
+use Rattle.reading.specs.declared.Said.{Said}
+use Rattle.reading.proofs.Lines.{next-low}
 use Rattle.readers.proofs.Columns.{ArcsWritten, column-start, column-end, arc-fits, arcs-on}
 use borrow.Author.Needs.{needs}
 use native.Mathlib.Omega.{arith}

@@ -1,7 +1,7 @@
 use Rattle.meaning.specs.Files.{xOf, yOf}
 use Rattle.meaning.specs.declared.Kind.the-variants.{Coordinates}
-use Rattle.judge.specs.declared.Said.{Said}
-use Rattle.judge.proofs.Lines.{next-low}
+use Rattle.reading.specs.declared.Said.{Said}
+use Rattle.reading.proofs.Lines.{next-low}
 use Rattle.readers.proofs.Columns.{PointsWritten, placed-end, x-fits, y-fits, points-on}
 use borrow.Author.Needs.{needs}
 use native.Mathlib.Omega.{arith}

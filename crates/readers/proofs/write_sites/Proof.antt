@@ -1,7 +1,7 @@
 use Rattle.meaning.specs.Files.{nodeOf}
 use Rattle.meaning.specs.declared.Kind.the-variants.{Sites}
-use Rattle.judge.specs.declared.Said.{Said}
-use Rattle.judge.proofs.Lines.{next-low}
+use Rattle.reading.specs.declared.Said.{Said}
+use Rattle.reading.proofs.Lines.{next-low}
 use Rattle.readers.proofs.Columns.{SitesWritten, column-start, column-end, site-fits, sites-on}
 use borrow.Author.Needs.{needs}
 use native.Mathlib.Omega.{arith}

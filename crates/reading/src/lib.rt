@@ -1,0 +1,337 @@
+// Judges a text: its size, the N handed in, and its lines in order. Nothing is written but the marks of the nodes given.
+ghost use mathlib.Core.Path.{_≡_};
+ghost use mathlib.Core.List.{List};
+ghost use Prim.Native.Nat.{ℕ, _*_, _≤_};
+ghost use lib.ListN.{length};
+ghost use lib.IntN.{natAbs};
+ghost use Rattle.meaning.specs.Limits.{base};
+ghost use Rattle.meaning.specs.Files.{Progress, within as isWithin, isCoordinate, mostRows, agrees as isAgreed, countsFault, entryFault, nodeOf, step, readFrom, handedIn, reading, answered, finish};
+ghost use Rattle.meaning.specs.Text.{lines};
+ghost use Rattle.reading.specs.Said.{saidAt};
+ghost use Rattle.reading.specs.Follows.{stateOf, onlyOnce, Keeps, Follows};
+use meaning::Counts;
+use meaning::Entry;
+use meaning::Kind;
+use meaning::Limits;
+use meaning::Line;
+use meaning::Read;
+use meaning::Rules;
+use text::Piece;
+
+mod marks;
+
+// How far the lines have been judged: whether the problem line has been, its counts, and the data lines since.
+struct State {
+    begun: bool,
+    nodes: usize,
+    rows: usize,
+    count: usize,
+}
+
+// After a line: on, or a refusal's number.
+enum Step {
+    On(State),
+    Stop(usize),
+}
+
+// What a line says, and where the next starts.
+pub struct Said {
+    pub line: Line,
+    pub next: usize,
+}
+
+fn within(lo: usize, x: usize, hi: usize) -> bool
+    ensures { λ r. ⌜ r ≡ isWithin lo x hi ⌝ }
+{
+    if lo <= x { x <= hi } else { false }
+}
+
+// A coordinate's size. The least i32 has no negative in an i32.
+pub fn size(z: i32) -> usize
+    ensures { λ r. ⌜ r ≡ natAbs z ⌝ }
+{
+    let wide = z as i64;
+    if wide < 0 {
+        (0 - wide) as usize
+    } else {
+        wide as usize
+    }
+}
+
+pub fn is_coordinate(limits: Limits, z: i32) -> bool
+    ensures { λ r. ⌜ r ≡ isCoordinate limits z ⌝ }
+{
+    size(z) <= limits.coordinate
+}
+
+fn most_rows(limits: Limits, kind: Kind) -> usize
+    ensures { λ r. ⌜ r ≡ mostRows limits kind ⌝ }
+{
+    match kind {
+        Kind::Graph => limits.arcs,
+        Kind::Coordinates => limits.nodes,
+        Kind::Sites => limits.sites,
+    }
+}
+
+fn agrees(kind: Kind, given: usize, n: usize) -> bool
+    ensures { λ r. ⌜ r ≡ isAgreed kind given n ⌝ }
+{
+    match kind {
+        Kind::Graph => true,
+        Kind::Coordinates => n == given,
+        Kind::Sites => true,
+    }
+}
+
+// Of a problem line: 4, then 9.
+fn counts_fault(rules: Rules, c: Counts) -> usize
+    ensures { λ r. ⌜ r ≡ countsFault rules c ⌝ }
+{
+    let limits = rules.limits;
+    let kind = rules.kind;
+    if !within(1, c.nodes, limits.nodes) {
+        return 4;
+    }
+    if most_rows(limits, kind) < c.rows {
+        return 4;
+    }
+    if !agrees(kind, rules.given, c.nodes) {
+        return 4;
+    }
+    if c.rows <= rules.room { 0 } else { 9 }
+}
+
+fn arc_fault(limits: Limits, n: usize, tail: usize, head: usize, weight: usize) -> usize
+    ensures { λ r. ⌜ r ≡ entryFault limits n (Entry.Arc tail head weight) ⌝ }
+{
+    if !within(1, tail, n) {
+        return 5;
+    }
+    if !within(1, head, n) {
+        return 5;
+    }
+    if within(1, weight, limits.weight) {
+        0
+    } else {
+        6
+    }
+}
+
+fn point_fault(limits: Limits, n: usize, node: usize, x: i32, y: i32) -> usize
+    ensures { λ r. ⌜ r ≡ entryFault limits n (Entry.Point node x y) ⌝ }
+{
+    if !within(1, node, n) {
+        return 5;
+    }
+    if !is_coordinate(limits, x) {
+        return 6;
+    }
+    if is_coordinate(limits, y) { 0 } else { 6 }
+}
+
+// Of a data line: 5, then 6.
+fn entry_fault(limits: Limits, n: usize, e: Entry) -> usize
+    ensures { λ r. ⌜ r ≡ entryFault limits n e ⌝ }
+{
+    match e {
+        Entry::Arc { tail, head, weight } => arc_fault(limits, n, tail, head, weight),
+        Entry::Point { node, x, y } => point_fault(limits, n, node, x, y),
+        Entry::Site { node } => { if within(1, node, n) { 0 } else { 5 } }
+    }
+}
+
+pub fn node_of(e: Entry) -> usize
+    ensures { λ r. ⌜ r ≡ nodeOf e ⌝ }
+{
+    match e {
+        Entry::Arc { tail, .. } => tail,
+        Entry::Point { node, .. } => node,
+        Entry::Site { node } => node,
+    }
+}
+
+fn only_once(e: Entry, given: bool) -> bool
+    ensures { λ r. ⌜ r ≡ onlyOnce e given ⌝ }
+{
+    match e {
+        Entry::Arc { .. } => false,
+        Entry::Point { .. } => given,
+        Entry::Site { .. } => given,
+    }
+}
+
+// A problem line.
+fn begun(rules: Rules, st: State, c: Counts) -> Step
+    ensures { λ r. ⌜ ((seen : List ℕ) (p : Progress) → Keeps (rules .limits .nodes) st seen p → Follows (rules .limits .nodes) r seen (step rules p (Line.Problem c))) ⌝ }
+{
+    if st.begun {
+        return Step::Stop(3);
+    }
+    let fault = counts_fault(rules, c);
+    if fault == 0 {
+        Step::On(State {
+            begun: true,
+            nodes: c.nodes,
+            rows: c.rows,
+            count: 0,
+        })
+    } else {
+        Step::Stop(fault)
+    }
+}
+
+// A data line. Its node is marked in any text; an arc may repeat one.
+fn added(rules: Rules, st: State, seen: &mut [u32], e: Entry) -> Step
+    requires { ⌜ (st .nodes ≤ rules .limits .nodes) × (rules .limits .nodes ≤ 32 * length (now seen)) ⌝ }
+    ensures { λ r. ⌜ ((p : Progress) → Keeps (rules .limits .nodes) st (now (seen .entry)) p → Follows (rules .limits .nodes) r (now (seen .exit)) (step rules p (Line.Data e))) ⌝ }
+{
+    if !st.begun {
+        return Step::Stop(3);
+    }
+    let count = st.count;
+    if st.rows <= count {
+        return Step::Stop(7);
+    }
+    let limits = rules.limits;
+    let fault = entry_fault(limits, st.nodes, e);
+    if fault != 0 {
+        return Step::Stop(fault);
+    }
+    let k = node_of(e) - 1;
+    if only_once(e, marks::marked(seen, k)) {
+        return Step::Stop(8);
+    }
+    marks::mark(seen, k);
+    Step::On(State {
+        begun: true,
+        nodes: st.nodes,
+        rows: st.rows,
+        count: count + 1,
+    })
+}
+
+// A line.
+fn advanced(rules: Rules, st: State, seen: &mut [u32], line: Line) -> Step
+    requires { ⌜ (st .nodes ≤ rules .limits .nodes) × (rules .limits .nodes ≤ 32 * length (now seen)) ⌝ }
+    ensures { λ r. ⌜ ((p : Progress) → Keeps (rules .limits .nodes) st (now (seen .entry)) p → Follows (rules .limits .nodes) r (now (seen .exit)) (step rules p line)) ⌝ }
+{
+    match line {
+        Line::Nothing => Step::On(st),
+        Line::Problem(c) => begun(rules, st, c),
+        Line::Data(e) => added(rules, st, seen, e),
+        Line::Malformed => Step::Stop(2),
+    }
+}
+
+// At the end of the text: 3, then 7.
+fn finished(st: State) -> Read
+    ensures { λ r. ⌜ ((p : Progress) → st ≡ stateOf p → r ≡ answered (finish p)) ⌝ }
+{
+    if !st.begun {
+        return Read::Refused {
+            number: 3,
+            place: 0,
+        };
+    }
+    let rows = st.rows;
+    if st.count == rows {
+        Read::Accepted {
+            nodes: st.nodes,
+            rows,
+        }
+    } else {
+        Read::Refused {
+            number: 7,
+            place: 0,
+        }
+    }
+}
+
+fn handed_in(limits: Limits, kind: Kind, n: usize) -> bool
+    ensures { λ r. ⌜ r ≡ handedIn limits kind n ⌝ }
+{
+    match kind {
+        Kind::Graph => true,
+        Kind::Coordinates => within(1, n, limits.nodes),
+        Kind::Sites => within(1, n, limits.nodes),
+    }
+}
+
+// What the line that starts at a position says.
+pub fn said_at(kind: Kind, given: usize, text: &[u8], at: usize) -> Said
+    ensures { λ r. ⌜ r ≡ saidAt kind given (now (text .entry)) at ⌝ }
+{
+    match text::line_at(text, at) {
+        Piece::Line(start, len, next) => {
+            let end = start + len;
+            let line = grammar::line_of(kind, given, text::trimmed(&text[start..end]));
+            Said { line, next }
+        }
+        Piece::End => Said {
+            line: Line::Nothing,
+            next: at,
+        },
+    }
+}
+
+// The lines in order, of a text whose size and handed-in N have been tested.
+fn judge(rules: Rules, text: &[u8]) -> Read
+    requires { ⌜ rules .limits .nodes ≤ 1024 ⌝ }
+    ensures { λ r. ⌜ r ≡ answered (readFrom rules (lines (now (text .entry))) Progress.awaiting 0) ⌝ }
+{
+    let kind = rules.kind;
+    let given = rules.given;
+    let mut seen = [0u32; 32];
+    let mut st = State {
+        begun: false,
+        nodes: 0,
+        rows: 0,
+        count: 0,
+    };
+    let mut at = 0;
+    let mut place: usize = 0;
+    while at < text.len() {
+        let said = said_at(kind, given, text, at);
+        let line = said.line;
+        place += 1;
+        match advanced(rules, st, &mut seen, line) {
+            Step::On(next) => {
+                st = next;
+            }
+            Step::Stop(number) => {
+                return Read::Refused { number, place };
+            }
+        }
+        at = said.next;
+    }
+    finished(st)
+}
+
+// The answer of a reader: 1, then a handed-in N 4, then the lines.
+pub fn judged(kind: Kind, given: usize, room: usize, text: &[u8]) -> Read
+    ensures { λ r. ⌜ r ≡ answered (reading (record { limits = base; kind = kind; given = given; room = room }) (now (text .entry))) ⌝ }
+{
+    let limits = meaning::base();
+    if limits.text < text.len() {
+        return Read::Refused {
+            number: 1,
+            place: 0,
+        };
+    }
+    if !handed_in(limits, kind, given) {
+        return Read::Refused {
+            number: 4,
+            place: 0,
+        };
+    }
+    judge(
+        Rules {
+            limits,
+            kind,
+            given,
+            room,
+        },
+        text,
+    )
+}
