@@ -9,7 +9,7 @@ use Rattle.meaning.specs.Region.{Region, ArcOf, LeastArc}
 use Rattle.meaning.specs.Walk.{Walk, here, step, Shortest}
 use Rattle.meaning.specs.Route.{Gives, RouteTo, at-query, from}
 use Rattle.meaning.specs.Listing.{Stop, Right, Listing}
-use Rattle.meaning.proofs.Listings.{all-map}
+use Rattle.meaning.proofs.Alls.{all-map}
 use Rattle.meaning.proofs.Parallel.{any-walk, shortest-same}
 
 -- what makes the arcs B as good as the arcs A, from the query q

@@ -11,7 +11,8 @@ use Rattle.meaning.specs.Scan.{any, better, first}
 use Rattle.meaning.specs.Straight.{gap, rootTo, root, straight}
 use Rattle.meaning.specs.Region.{Tables, Rooms, isSite}
 use Rattle.meaning.specs.Taking.{memb, taken, isOpen, aimed, leastAt, toSites, sitesOf, lower, looks, relax, relaxTo, take1, takeAt, start, full, choose, next, after, final, takenCount}
-use Rattle.meaning.specs.Listing.{Stop, All}
+use Rattle.meaning.specs.Lists.{All}
+use Rattle.meaning.specs.Listing.{Stop}
 use Rattle.meaning.specs.Checks.{andThen, firstFault, pointFault, arcFault, siteFault, inspect}
 use Rattle.meaning.specs.Search.{backToBack, endsAfter, filled, Searched}
 use Rattle.meaning.proofs.Trace.{arcGives, prev, back, route, stops, listOf}

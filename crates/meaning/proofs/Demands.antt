@@ -15,7 +15,8 @@ use Rattle.meaning.specs.Region.{Tables, Rooms, regionOf, xAt, yAt, ArcO
 use Rattle.meaning.specs.Walk.{Walk, Shortest}
 use Rattle.meaning.specs.Taking.{taken, lenAt, sitesOf, next, after, final, takenCount}
 use Rattle.meaning.specs.Route.{Gives}
-use Rattle.meaning.specs.Listing.{Stop, All, Right, Listing}
+use Rattle.meaning.specs.Lists.{All}
+use Rattle.meaning.specs.Listing.{Stop, Right, Listing}
 use Rattle.meaning.specs.Search.{aimOf, backToBack}
 use Rattle.meaning.proofs.Counting.{count, count-le}
 use Rattle.meaning.proofs.Exits.{one, join, shortest-unique, shortest-front}
@@ -28,7 +29,8 @@ use Rattle.meaning.proofs.Trace.{listOf}
 use Rattle.meaning.proofs.Routes.{route-fits}
 use Rattle.meaning.proofs.Bounds.{Came, came-after, came-once, lens, within-last}
 use Rattle.meaning.proofs.Parallel.{any-walk, shortest-same}
-use Rattle.meaning.proofs.Listings.{nodes, nodes-stops, all-map, listing-unique, list-right}
+use Rattle.meaning.proofs.Alls.{all-map}
+use Rattle.meaning.proofs.Listings.{nodes, nodes-stops, listing-unique, list-right}
 use Rattle.meaning.proofs.Passed.{Sound, sound-valid, sound-weights, sound-long, sound-query}
 use Rattle.meaning.proofs.Outcomes.{aim-fits, list-fits}
 

@@ -1,4 +1,5 @@
 pub mod Bools
+pub mod Alls
 pub mod Counting
 pub mod Scans
 pub mod Refusals

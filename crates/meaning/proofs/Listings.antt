@@ -11,8 +11,10 @@ use lib.ListN.{length, length-map}
 use Rattle.meaning.specs.Region.{Region, ArcOf, isSite}
 use Rattle.meaning.specs.Walk.{Walk, Shortest}
 use Rattle.meaning.specs.Taking.{State, memb, taken, lenAt, sitesOf, final}
-use Rattle.meaning.specs.Listing.{Stop, Before, All, Ordered, Right, Listing}
+use Rattle.meaning.specs.Lists.{All}
+use Rattle.meaning.specs.Listing.{Stop, Before, Ordered, Right, Listing}
 use Rattle.meaning.proofs.Bools.{decT}
+use Rattle.meaning.proofs.Alls.{all-zip, all-map}
 use Rattle.meaning.proofs.Exits.{shortest-unique}
 use Rattle.meaning.proofs.Relaxing.{Valid, Estimate}
 use Rattle.meaning.proofs.Orders.{FirstK, Asc, unique, memb-head, memb-tail, memb-cases, memb-not}
@@ -27,14 +29,6 @@ clash : _≡_ {A = ℕ} 0 1 → ⊥
 clash z = omega arith
 
 -- ---- what holds of all lines
-
-pub all-zip : {A : Type 0} (P Q : A → Type 0) (list : List A) → All P list → All Q list → All (λ l. P l × Q l) list
-all-zip P Q [] p q = tt
-all-zip P Q (l ∷ list) p q = ((p .0, q .0), all-zip P Q list (p .1) (q .1))
-
-pub all-map : {A : Type 0} (P Q : A → Type 0) → ((l : A) → P l → Q l) → (list : List A) → All P list → All Q list
-all-map P Q f [] p = tt
-all-map P Q f (l ∷ list) p = (f l (p .0), all-map P Q f list (p .1))
 
 all-swap : {A : Type 0} (W : ℕ → Type 0) (P : ℕ → A → Type 0) (list : List A) → ((e : ℕ) → W e → All (P e) list) → All (λ l. (e : ℕ) → W e → P e l) list
 all-swap W P [] h = tt

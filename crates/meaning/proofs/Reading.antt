@@ -10,6 +10,7 @@ use lib.IntN.{ℤ, natAbs}
 use native.Mathlib.Omega.{arith}
 use native.Mathlib.Nat.{zero-add}
 use borrow.Author.Tests.{leb-true, eqb-true, eqb-false, ne-eqb}
+use Rattle.meaning.specs.Lists.{All}
 use Rattle.meaning.specs.Text.{lines, trim, fields, first, others, none, same, number, signed}
 use Rattle.meaning.specs.Grammar.{wordC, wordP, wordSp, wordCo, wordSs, wordA, wordV, wordS, lastNumber, lastSigned, auxCount, graphCounts, pointCounts, siteCounts, problemOf, arcData, pointData, siteData, dataOf, lineOf}
 use Rattle.meaning.specs.Files.{within, isWeight, isCoordinate, mostRows, agrees, countsFault, entryFault, nodeOf, isGiven, repeated, Progress, awaiting, begun, Next, step, Reading, refused, read, finish, onNext, readFrom, handedIn, reading, inFront}
@@ -26,6 +27,7 @@ use Rattle.meaning.specs.declared.Entry.{Entry}
 use Rattle.meaning.specs.declared.Entry.the-variants.{Arc, Point, Site}
 use Rattle.meaning.specs.declared.Line.{Line}
 use Rattle.meaning.specs.declared.Line.the-variants.{Nothing, Problem, Data, Malformed}
+use Rattle.meaning.proofs.Alls.{all-more}
 use Rattle.meaning.proofs.Refusals.{line-order}
 
 -- ---- the words of the theorems
@@ -43,8 +45,7 @@ entriesOf kind given [] = []
 entriesOf kind given (l ∷ ls) = withData (lineOf kind given (fields (trim l))) (entriesOf kind given ls)
 
 abbrev pub AllFine : Limits → ℕ → List Entry → Type 0
-AllFine L n [] = Unit {0}
-AllFine L n (e ∷ es) = (entryFault L n e ≡ 0) × AllFine L n es
+AllFine L n es = All (λ e. entryFault L n e ≡ 0) es
 
 -- arcs in a graph text, points in a coordinate text, sites in a site text
 abbrev pub IsOf : Kind → Entry → Type 0
@@ -59,8 +60,7 @@ IsOf Sites (Point v x y) = ⊥
 IsOf Sites (Site v) = Unit {0}
 
 abbrev pub AllOf : Kind → List Entry → Type 0
-AllOf kind [] = Unit {0}
-AllOf kind (e ∷ es) = IsOf kind e × AllOf kind es
+AllOf kind es = All (IsOf kind) es
 
 abbrev pub Distinct : List Entry → Type 0
 Distinct [] = Unit {0}
@@ -227,14 +227,6 @@ line-by kind given fs =
 
 -- ---- one entry more
 
-pub fine-more : (L : Limits) (n : ℕ) (es : List Entry) (e : Entry) → AllFine L n es → entryFault L n e ≡ 0 → AllFine L n (es ++ e ∷ [])
-fine-more L n [] e a h = (h, tt)
-fine-more L n (d ∷ es) e a h = (a .0, fine-more L n es e (a .1) h)
-
-of-more : (kind : Kind) (es : List Entry) (e : Entry) → AllOf kind es → IsOf kind e → AllOf kind (es ++ e ∷ [])
-of-more kind [] e a h = (h, tt)
-of-more kind (d ∷ es) e a h = (a .0, of-more kind es e (a .1) h)
-
 -- a node is among more entries if it is their last's or it was there
 pub given-more : (v : ℕ) (es : List Entry) (e : Entry) → isGiven v (es ++ e ∷ []) ≡ isGiven v es || eqb (nodeOf e) v
 given-more v [] e = last (eqb (nodeOf e) v)
@@ -305,8 +297,8 @@ module _ (R : Rules) (d : Counts) (ds rest : List Entry) (c : Counts) (es : List
   grown-data e o false true false x y z h =
       let g : Grown R d (ds ++ e ∷ []) rest c es
       = ih (ds ++ e ∷ []) record {
-        fine = fine-more (R .limits) (d .nodes) ds e (held .fine) (eqb-true (entryFault (R .limits) (d .nodes) e) 0 y);
-        of-kind = of-more (R .kind) ds e (held .of-kind) o;
+        fine = all-more (λ b. entryFault (R .limits) (d .nodes) b ≡ 0) ds e (held .fine) (eqb-true (entryFault (R .limits) (d .nodes) e) 0 y);
+        of-kind = all-more (IsOf (R .kind)) ds e (held .of-kind) o;
         distinct = distinct-by (R .kind) ds e o (held .distinct) z;
       } (rw (x, y, z) at h) in
       record { counts = g .counts; entries = g .entries ∙ append-assoc ds (e ∷ []) rest; full = g .full; held = g .held }

@@ -3,6 +3,7 @@ pub mod Text
 pub mod Grammar
 pub mod Files
 pub mod Scan
+pub mod Lists
 pub mod Straight
 pub mod Region
 pub mod Checks

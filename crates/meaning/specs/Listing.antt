@@ -6,6 +6,7 @@ use mathlib.Core.List.{List, [], _∷_}
 use Prim.Native.Nat.{ℕ, _≤_, _<_}
 use lib.Dec.{T}
 use lib.ListN.{length}
+use Rattle.meaning.specs.Lists.{All}
 use Rattle.meaning.specs.Walk.{Walk, Shortest}
 use Rattle.meaning.specs.Route.{RouteTo}
 
@@ -18,10 +19,6 @@ pub record Stop : Type 0 where
 -- "Sites are ordered by shortest length, then node number": a at d comes before b at e
 abbrev pub Before : ℕ → ℕ → ℕ → ℕ → Type 0
 Before a d b e = (d < e) ⊎ ((d ≡ e) × (a < b))
-
-abbrev pub All : {A : Type 0} → (A → Type 0) → List A → Type 0
-All P [] = Unit {0}
-All P (x ∷ xs) = P x × All P xs
 
 -- each line comes before all that follow it
 abbrev pub Ordered : List Stop → Type 0

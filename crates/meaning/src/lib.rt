@@ -28,6 +28,25 @@ pub fn base() -> Limits
     }
 }
 
+// The refusals of a reader, by the paper's numbers.
+pub const TEXT_TOO_LONG: usize = 1;
+
+pub const NOT_PERMITTED: usize = 2;
+
+pub const PROBLEM_MISPLACED: usize = 3;
+
+pub const COUNT_OUTSIDE: usize = 4;
+
+pub const NODE_OUTSIDE: usize = 5;
+
+pub const VALUE_OUTSIDE: usize = 6;
+
+pub const DATA_MISCOUNTED: usize = 7;
+
+pub const GIVEN_TWICE: usize = 8;
+
+pub const TABLE_SHORT: usize = 9;
+
 // Which of the three texts.
 pub enum Kind {
     Graph,

@@ -18,7 +18,8 @@ use Rattle.meaning.proofs.Reading.{withData, entriesOf}
 use Rattle.reading.specs.Said.{saidAt}
 use Rattle.reading.specs.declared.Said.{Said}
 use Rattle.reading.proofs.Lines.{line-is, next-high, lines-at}
-use Rattle.readers.specs.Writing.{OfData, nextPlace, putAt, putNode, All, ArcFits, SiteFits, InTable, SmallArc, SmallSite}
+use Rattle.meaning.specs.Lists.{All}
+use Rattle.readers.specs.Writing.{OfData, nextPlace, putAt, putNode, ArcFits, SiteFits, InTable, SmallArc, SmallSite}
 
 -- the entries from a position on
 abbrev pub left : Kind → ℕ → List ℕ → ℕ → List Entry

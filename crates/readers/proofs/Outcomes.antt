@@ -1,7 +1,7 @@
 -- The outcome of each reader, from the answer of the first pass and what the second wrote.
 use Prim.Native.Nat.{ℕ, min, _≤_}
 use mathlib.Core.Path.{_≡_, ap, sym, _∙_, subst}
-use mathlib.Core.List.{List, [], _∷_, map}
+use mathlib.Core.List.{List, map}
 use lib.IntN.{ℤ}
 use lib.ListN.{length}
 use lib.Seq.{sets}
@@ -17,14 +17,12 @@ use Rattle.meaning.specs.declared.Entry.the-variants.{Arc, Point, Site}
 use Rattle.meaning.specs.declared.Read.{Read}
 use Rattle.meaning.specs.declared.Read.the-variants.{Refused, Accepted}
 use Rattle.meaning.proofs.Reading as Known
-use Rattle.meaning.proofs.Reading.{entriesOf, AllFine, accepted, front-sets, arc-fine, node-fine}
+use Rattle.meaning.proofs.Alls.{all-map}
+use Rattle.meaning.proofs.Reading.{entriesOf, accepted, front-sets, arc-fine, node-fine}
 use Rattle.meaning.proofs.Tables.{Taken, taken}
 use Rattle.meaning.proofs.Unique.{front-kept, node-kept}
-use Rattle.readers.specs.Writing.{All, InTable, SmallArc, SmallSite, ArcsFit, PointsFit, SitesFit}
-
-all-of : (P : Entry → Type 0) (L : Limits) (n : ℕ) → ((e : Entry) → entryFault L n e ≡ 0 → P e) → (es : List Entry) → AllFine L n es → All P es
-all-of P L n f [] a = tt
-all-of P L n f (e ∷ es) a = (f e (a .0), all-of P L n f es (a .1))
+use Rattle.meaning.specs.Lists.{All}
+use Rattle.readers.specs.Writing.{InTable, SmallArc, SmallSite, ArcsFit, PointsFit, SitesFit}
 
 -- ---- an accepted text of any kind
 
@@ -42,7 +40,7 @@ module _ (R : Rules) (text : List ℕ) (n m : ℕ) (was : Accepted n m ≡ answe
   count-fits = omega (arith, ap length (known .entries), known .full, known .room)
 
   all-fit : (P : Entry → Type 0) → ((e : Entry) → entryFault (R .limits) (told .counts .nodes) e ≡ 0 → P e) → All P entries
-  all-fit P f = subst (All P) (known .entries) (all-of P (R .limits) (told .counts .nodes) f (told .entries) (known .fine))
+  all-fit P f = subst (All P) (known .entries) (all-map (λ e. entryFault (R .limits) (told .counts .nodes) e ≡ 0) P f (told .entries) (known .fine))
 
   front-written : {A : Type 0} (value : Entry → A) (xs : List A) → R .room ≤ length xs → sets xs 0 (map value entries) ≡ inFront value (reading R text) xs
   front-written value xs h =

@@ -1,8 +1,9 @@
 -- What the second pass writes, line by line.
 use Prim.Native.Nat.{ℕ, _+_, _-_, _≤_, _<_}
-use mathlib.Core.List.{List, [], _∷_}
+use mathlib.Core.List.{List}
 use lib.IntN.{ℤ}
 use lib.ListN.{length, set}
+use Rattle.meaning.specs.Lists.{All}
 use Rattle.meaning.specs.Files.{nodeOf, headOf, weightOf}
 use Rattle.meaning.proofs.Reading.{NodeFine}
 use Rattle.meaning.specs.declared.Entry.{Entry}
@@ -59,10 +60,6 @@ SmallArc e = (nodeOf e < 65536) × (headOf e < 65536) × (weightOf e < 429496729
 
 abbrev pub SmallSite : Entry → Type 0
 SmallSite e = nodeOf e < 65536
-
-abbrev pub All : (Entry → Type 0) → List Entry → Type 0
-All P [] = Unit {0}
-All P (e ∷ es) = P e × All P es
 
 -- the entries that fit three columns, two tables by node, one column
 pub record ArcsFit (es : List Entry) (tails heads weights : List ℕ) : Type 0 where

@@ -9,13 +9,22 @@ ghost use Rattle.meaning.specs.Files.{Progress, within as isWithin, isCoordinat
 ghost use Rattle.meaning.specs.Text.{lines};
 ghost use Rattle.reading.specs.Said.{saidAt};
 ghost use Rattle.reading.specs.Follows.{stateOf, onlyOnce, Keeps, Follows};
+use meaning::COUNT_OUTSIDE;
 use meaning::Counts;
+use meaning::DATA_MISCOUNTED;
 use meaning::Entry;
+use meaning::GIVEN_TWICE;
 use meaning::Kind;
 use meaning::Limits;
 use meaning::Line;
+use meaning::NODE_OUTSIDE;
+use meaning::NOT_PERMITTED;
+use meaning::PROBLEM_MISPLACED;
 use meaning::Read;
 use meaning::Rules;
+use meaning::TABLE_SHORT;
+use meaning::TEXT_TOO_LONG;
+use meaning::VALUE_OUTSIDE;
 use text::Piece;
 
 mod marks;
@@ -91,30 +100,30 @@ fn counts_fault(rules: Rules, c: Counts) -> usize
     let limits = rules.limits;
     let kind = rules.kind;
     if !within(1, c.nodes, limits.nodes) {
-        return 4;
+        return COUNT_OUTSIDE;
     }
     if most_rows(limits, kind) < c.rows {
-        return 4;
+        return COUNT_OUTSIDE;
     }
     if !agrees(kind, rules.given, c.nodes) {
-        return 4;
+        return COUNT_OUTSIDE;
     }
-    if c.rows <= rules.room { 0 } else { 9 }
+    if c.rows <= rules.room { 0 } else { TABLE_SHORT }
 }
 
 fn arc_fault(limits: Limits, n: usize, tail: usize, head: usize, weight: usize) -> usize
     ensures { λ r. ⌜ r ≡ entryFault limits n (Entry.Arc tail head weight) ⌝ }
 {
     if !within(1, tail, n) {
-        return 5;
+        return NODE_OUTSIDE;
     }
     if !within(1, head, n) {
-        return 5;
+        return NODE_OUTSIDE;
     }
     if within(1, weight, limits.weight) {
         0
     } else {
-        6
+        VALUE_OUTSIDE
     }
 }
 
@@ -122,12 +131,16 @@ fn point_fault(limits: Limits, n: usize, node: usize, x: i32, y: i32) -> usize
     ensures { λ r. ⌜ r ≡ entryFault limits n (Entry.Point node x y) ⌝ }
 {
     if !within(1, node, n) {
-        return 5;
+        return NODE_OUTSIDE;
     }
     if !is_coordinate(limits, x) {
-        return 6;
+        return VALUE_OUTSIDE;
     }
-    if is_coordinate(limits, y) { 0 } else { 6 }
+    if is_coordinate(limits, y) {
+        0
+    } else {
+        VALUE_OUTSIDE
+    }
 }
 
 // Of a data line: 5, then 6.
@@ -137,7 +150,7 @@ fn entry_fault(limits: Limits, n: usize, e: Entry) -> usize
     match e {
         Entry::Arc { tail, head, weight } => arc_fault(limits, n, tail, head, weight),
         Entry::Point { node, x, y } => point_fault(limits, n, node, x, y),
-        Entry::Site { node } => { if within(1, node, n) { 0 } else { 5 } }
+        Entry::Site { node } => { if within(1, node, n) { 0 } else { NODE_OUTSIDE } }
     }
 }
 
@@ -166,7 +179,7 @@ fn begun(rules: Rules, st: State, c: Counts) -> Step
     ensures { λ r. ⌜ ((seen : List ℕ) (p : Progress) → Keeps (rules .limits .nodes) st seen p → Follows (rules .limits .nodes) r seen (step rules p (Line.Problem c))) ⌝ }
 {
     if st.begun {
-        return Step::Stop(3);
+        return Step::Stop(PROBLEM_MISPLACED);
     }
     let fault = counts_fault(rules, c);
     if fault == 0 {
@@ -187,11 +200,11 @@ fn added(rules: Rules, st: State, seen: &mut [u32], e: Entry) -> Step
     ensures { λ r. ⌜ ((p : Progress) → Keeps (rules .limits .nodes) st (now (seen .entry)) p → Follows (rules .limits .nodes) r (now (seen .exit)) (step rules p (Line.Data e))) ⌝ }
 {
     if !st.begun {
-        return Step::Stop(3);
+        return Step::Stop(PROBLEM_MISPLACED);
     }
     let count = st.count;
     if st.rows <= count {
-        return Step::Stop(7);
+        return Step::Stop(DATA_MISCOUNTED);
     }
     let limits = rules.limits;
     let fault = entry_fault(limits, st.nodes, e);
@@ -200,7 +213,7 @@ fn added(rules: Rules, st: State, seen: &mut [u32], e: Entry) -> Step
     }
     let k = node_of(e) - 1;
     if only_once(e, marks::marked(seen, k)) {
-        return Step::Stop(8);
+        return Step::Stop(GIVEN_TWICE);
     }
     marks::mark(seen, k);
     Step::On(State {
@@ -220,7 +233,7 @@ fn advanced(rules: Rules, st: State, seen: &mut [u32], line: Line) -> Step
         Line::Nothing => Step::On(st),
         Line::Problem(c) => begun(rules, st, c),
         Line::Data(e) => added(rules, st, seen, e),
-        Line::Malformed => Step::Stop(2),
+        Line::Malformed => Step::Stop(NOT_PERMITTED),
     }
 }
 
@@ -230,7 +243,7 @@ fn finished(st: State) -> Read
 {
     if !st.begun {
         return Read::Refused {
-            number: 3,
+            number: PROBLEM_MISPLACED,
             place: 0,
         };
     }
@@ -242,7 +255,7 @@ fn finished(st: State) -> Read
         }
     } else {
         Read::Refused {
-            number: 7,
+            number: DATA_MISCOUNTED,
             place: 0,
         }
     }
@@ -315,13 +328,13 @@ pub fn judged(kind: Kind, given: usize, room: usize, text: &[u8]) -> Read
     let limits = meaning::base();
     if limits.text < text.len() {
         return Read::Refused {
-            number: 1,
+            number: TEXT_TOO_LONG,
             place: 0,
         };
     }
     if !handed_in(limits, kind, given) {
         return Read::Refused {
-            number: 4,
+            number: COUNT_OUTSIDE,
             place: 0,
         };
     }
