@@ -6,6 +6,7 @@ Run at the repository's root:  python3 tests/reader_cases.py
 A case is a line `KIND NODES ROOM LENGTH` (a letter g, c or s, then three numbers of five digits), LENGTH bytes of text, and LF.
 The lent tables hold 7 everywhere before each case. A result is `x NUMBER PLACE` or `= NODES ROWS`, then a digest of each lent table.
 """
+import pathlib
 import random
 import re
 
@@ -120,10 +121,9 @@ def tables_after(kind, room, data):
 # ---- the texts
 
 def worked():
-    graph = b"p sp 6 8\na 1 2 5\na 2 3 5\na 1 4 6\na 4 3 7\na 1 5 10\na 3 5 9\na 2 1 5\na 5 6 9\n"
-    points = b"p aux sp co 6\nv 1 0 0\nv 2 3 4\nv 3 6 8\nv 4 0 5\nv 5 10 0\nv 6 3 -4\n"
-    sites = b"p aux sp ss 3\ns 5\ns 3\ns 6\n"
-    return [("g", graph, 0, 4096), ("c", points, 6, 1024), ("s", sites, 6, 128)]
+    """The paper's region, as the pack has it."""
+    pack = pathlib.Path("packs/worked")
+    return [(kind, (pack / name).read_bytes(), n, room) for kind, name, n, room in [("g", "map.gr", 0, 4096), ("c", "map.co", 6, 1024), ("s", "sites.ss", 6, 128)]]
 
 
 def borders():

@@ -25,10 +25,11 @@ use Rattle.meaning.specs.declared.Read.the-variants.{Refused, Accepted}
 abbrev pub within : ℕ → ℕ → ℕ → Bool
 within lo x hi = leb lo x && leb x hi
 
--- "Weight: 1 to 1,000,000. X and Y: -200,000,000 to 200,000,000."
+-- "Weight: 1 to 1,000,000."
 abbrev pub isWeight : Limits → ℕ → Bool
 isWeight L w = within 1 w (L .weight)
 
+-- "X and Y: -200,000,000 to 200,000,000."
 abbrev pub isCoordinate : Limits → ℤ → Bool
 isCoordinate L z = leb (natAbs z) (L .coordinate)
 
@@ -115,6 +116,7 @@ abbrev pub finish : Progress → Reading
 finish awaiting = refused problemMisplaced 0
 finish (begun c es) = cond (eqb (length es) (c .rows)) (read c es) (refused dataMiscounted 0)
 
+-- a refusal at this line's place, or what follows
 abbrev pub onNext : Next → ℕ → (Progress → Reading) → Reading
 onNext (stop number) place on = refused number place
 onNext (go p) place on = on p
@@ -160,59 +162,70 @@ abbrev pub byNode : {A : Type 0} → (Entry → A) → Reading → List A → Li
 byNode value (refused number place) xs = xs
 byNode value (read c es) xs = putAll value es xs
 
--- an arc's head and weight; a point's X and Y
+-- V of "a U V W"; U is the entry's node
 abbrev pub headOf : Entry → ℕ
 headOf (Arc u v w) = v
 headOf (Point v x y) = 0
 headOf (Site v) = 0
 
+-- W of "a U V W"
 abbrev pub weightOf : Entry → ℕ
 weightOf (Arc u v w) = w
 weightOf (Point v x y) = 0
 weightOf (Site v) = 0
 
+-- X of "v ID X Y"
 abbrev pub xOf : Entry → ℤ
 xOf (Arc u v w) = pos 0
 xOf (Point v x y) = x
 xOf (Site v) = pos 0
 
+-- Y of "v ID X Y"
 abbrev pub yOf : Entry → ℤ
 yOf (Arc u v w) = pos 0
 yOf (Point v x y) = y
 yOf (Site v) = pos 0
 
--- ---- the three readers: the room is the shortest of the columns
+-- ---- the three readers
 
+-- a graph text is handed no N
 abbrev pub graphRules : Limits → ℕ → Rules
 graphRules L room = record { limits = L; kind = Graph; given = 0; room = room }
 
+-- a coordinate text is handed N
 abbrev pub coordinateRules : Limits → ℕ → ℕ → Rules
 coordinateRules L n room = record { limits = L; kind = Coordinates; given = n; room = room }
 
+-- a site text is handed N
 abbrev pub siteRules : Limits → ℕ → ℕ → Rules
 siteRules L n room = record { limits = L; kind = Sites; given = n; room = room }
 
+-- "data table shorter than its count": the room is the shortest of the three columns
 abbrev pub graphReading : Limits → List ℕ → List ℕ → List ℕ → List ℕ → Reading
 graphReading L text tails heads weights = reading (graphRules L (min (length tails) (min (length heads) (length weights)))) text
 
+-- the room is the shorter of the two columns
 abbrev pub coordinateReading : Limits → List ℕ → ℕ → List ℤ → List ℤ → Reading
 coordinateReading L text n xs ys = reading (coordinateRules L n (min (length xs) (length ys))) text
 
+-- the room is the one column's
 abbrev pub siteReading : Limits → List ℕ → ℕ → List ℕ → Reading
 siteReading L text n sites = reading (siteRules L n (length sites)) text
 
--- the outcome of each reader: the answer, and each lent table as it was and as it is left
+-- the outcome of the graph reader: the answer, and each lent table as it was and as it is left
 pub record GraphRead (L : Limits) (text tails heads weights tails′ heads′ weights′ : List ℕ) (answer : Read) : Type 0 where
   pub answer-is : answer ≡ answered (graphReading L text tails heads weights)
   pub tails-are : tails′ ≡ inFront nodeOf (graphReading L text tails heads weights) tails
   pub heads-are : heads′ ≡ inFront headOf (graphReading L text tails heads weights) heads
   pub weights-are : weights′ ≡ inFront weightOf (graphReading L text tails heads weights) weights
 
+-- the outcome of the coordinate reader
 pub record CoordinatesRead (L : Limits) (text : List ℕ) (n : ℕ) (xs ys xs′ ys′ : List ℤ) (answer : Read) : Type 0 where
   pub answer-is : answer ≡ answered (coordinateReading L text n xs ys)
   pub xs-are : xs′ ≡ byNode xOf (coordinateReading L text n xs ys) xs
   pub ys-are : ys′ ≡ byNode yOf (coordinateReading L text n xs ys) ys
 
+-- the outcome of the site reader
 pub record SitesRead (L : Limits) (text : List ℕ) (n : ℕ) (sites sites′ : List ℕ) (answer : Read) : Type 0 where
   pub answer-is : answer ≡ answered (siteReading L text n sites)
   pub sites-are : sites′ ≡ inFront nodeOf (siteReading L text n sites) sites

@@ -13,38 +13,47 @@ use Rattle.meaning.specs.declared.Entry.the-variants.{Arc, Point, Site}
 use Rattle.meaning.specs.declared.Line.{Line}
 use Rattle.meaning.specs.declared.Line.the-variants.{Nothing, Problem, Data, Malformed}
 
--- "The words p, sp, aux, co, ss, a, v, s and c", as bytes
+-- "The words p, sp, aux, co, ss, a, v, s and c", as bytes: p
 abbrev pub wordP : List ℕ
 wordP = 112 ∷ []
 
+-- sp
 abbrev pub wordSp : List ℕ
 wordSp = 115 ∷ 112 ∷ []
 
+-- aux
 abbrev pub wordAux : List ℕ
 wordAux = 97 ∷ 117 ∷ 120 ∷ []
 
+-- co
 abbrev pub wordCo : List ℕ
 wordCo = 99 ∷ 111 ∷ []
 
+-- ss
 abbrev pub wordSs : List ℕ
 wordSs = 115 ∷ 115 ∷ []
 
+-- a
 abbrev pub wordA : List ℕ
 wordA = 97 ∷ []
 
+-- v
 abbrev pub wordV : List ℕ
 wordV = 118 ∷ []
 
+-- s
 abbrev pub wordS : List ℕ
 wordS = 115 ∷ []
 
+-- c
 abbrev pub wordC : List ℕ
 wordC = 99 ∷ []
 
--- a last field that is a number, and one that is a coordinate
+-- a last field that is a number
 abbrev pub lastNumber : List (List ℕ) → Number
 lastNumber fs = cond (none (others fs)) (number (first fs)) NoNumber
 
+-- a last field that is a coordinate
 abbrev pub lastSigned : List (List ℕ) → Signed
 lastSigned fs = cond (none (others fs)) (signed (first fs)) NoCoordinate
 
@@ -55,16 +64,18 @@ auxCount third fs =
     (lastNumber (others (others (others fs))))
     NoNumber
 
--- N and M; N, which is the number of data lines too; S, beside the N handed in
+-- N and M
 abbrev pub graphCounts : Number → Number → Line
 graphCounts (Value n) (Value m) = Problem (record { nodes = n; rows = m })
 graphCounts (Value n) NoNumber = Malformed
 graphCounts NoNumber m = Malformed
 
+-- N, which is the number of data lines too
 abbrev pub pointCounts : Number → Line
 pointCounts (Value n) = Problem (record { nodes = n; rows = n })
 pointCounts NoNumber = Malformed
 
+-- S, beside the N handed in
 abbrev pub siteCounts : ℕ → Number → Line
 siteCounts given (Value s) = Problem (record { nodes = given; rows = s })
 siteCounts given NoNumber = Malformed
@@ -75,19 +86,21 @@ problemOf Graph given fs = cond (same (first fs) wordSp) (graphCounts (number (f
 problemOf Coordinates given fs = pointCounts (auxCount wordCo fs)
 problemOf Sites given fs = siteCounts given (auxCount wordSs fs)
 
--- U V W, ID X Y and ID, each read as it must be
+-- U V W, all of them numbers
 abbrev pub arcData : Number → Number → Number → Line
 arcData (Value u) (Value v) (Value w) = Data (Arc u v w)
 arcData (Value u) (Value v) NoNumber = Malformed
 arcData (Value u) NoNumber w = Malformed
 arcData NoNumber v w = Malformed
 
+-- ID X Y: a number and two coordinates
 abbrev pub pointData : Number → Signed → Signed → Line
 pointData (Value v) (At x) (At y) = Data (Point v x y)
 pointData (Value v) (At x) NoCoordinate = Malformed
 pointData (Value v) NoCoordinate y = Malformed
 pointData NoNumber x y = Malformed
 
+-- ID, a number
 abbrev pub siteData : Number → Line
 siteData (Value v) = Data (Site v)
 siteData NoNumber = Malformed

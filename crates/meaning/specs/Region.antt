@@ -50,10 +50,11 @@ regionOf t = record {
   site = λ j. getD (t .sites) j 0 - 1;
 }
 
--- a node's coordinates
+-- a node's X
 abbrev pub xAt : Tables → ℕ → ℤ
 xAt t v = getD (t .xs) v (pos 0)
 
+-- a node's Y
 abbrev pub yAt : Tables → ℕ → ℤ
 yAt t v = getD (t .ys) v (pos 0)
 

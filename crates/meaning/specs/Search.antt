@@ -61,6 +61,7 @@ pub record Kept (number place : ℕ) (before after : Rooms) (answer : Answer) : 
   pub answer-is : answer ≡ Denied number place
   pub rooms-are : after ≡ before
 
+-- by the verdict of the checks
 abbrev pub judged : Verdict → Tables → ℕ → ℕ → Rooms → Rooms → Answer → Type 0
 judged Fine t q k before after answer = Found t q k before after answer
 judged (Faulty number place) t q k before after answer = Kept number place before after answer

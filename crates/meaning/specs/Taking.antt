@@ -14,13 +14,16 @@ pub record State : Type 0 where
   pub best : List ℕ
   pub order : List ℕ
 
+-- a seen node's best length so far
 abbrev pub lenAt : List ℕ → ℕ → ℕ
 lenAt best v = getD best v 0 - 1
 
+-- whether v is one of the nodes
 unfoldable pub memb : ℕ → List ℕ → Bool
 memb v [] = false
 memb v (x ∷ xs) = eqb x v || memb v xs
 
+-- whether v has been taken
 unfoldable pub taken : State → ℕ → Bool
 taken s v = memb v (s .order)
 
@@ -32,11 +35,12 @@ isOpen s v = ltb 0 (getD (s .best) v 0) && not (taken s v)
 unfoldable pub aimed : Region → State → ℕ → Bool
 aimed R s v = isSite R v && not (taken s v)
 
--- "the least straight line to a site not yet taken": the least measure from v to a site of the set, and 0 where the set has none
+-- the value at the index found, and 0 where none is
 unfoldable pub leastAt : (ℕ → ℕ) → Option ℕ → ℕ
 leastAt f none = 0
 leastAt f (some j) = f j
 
+-- "the least straight line to a site not yet taken": the least measure from v to a site of the set
 unfoldable pub toSites : Region → (ℕ → ℕ → ℕ) → (ℕ → Bool) → ℕ → ℕ
 toSites R measure set v = leastAt (λ j. measure v (R .site j)) (first (λ j. set (R .site j)) (λ j. measure v (R .site j)) (R .s))
 
@@ -44,6 +48,7 @@ toSites R measure set v = leastAt (λ j. measure v (R .site j)) (first (λ j. se
 abbrev pub total : ℕ → ℕ → ℕ
 total road line = road + line
 
+-- 0 for a node that isn't a site, 1 for a site
 abbrev pub bit : Bool → ℕ
 bit true = 1
 bit false = 0
@@ -57,7 +62,7 @@ unfoldable pub sitesOf : Region → List ℕ → List ℕ
 sitesOf R [] = []
 sitesOf R (v ∷ vs) = cond (isSite R v) (sitesOf R vs ++ v ∷ []) (sitesOf R vs)
 
--- "open, or shorten": a length that has been seen gives way only to a shorter one
+-- the shorter of two lengths: one that has been seen gives way only to a shorter one
 unfoldable pub lower : ℕ → ℕ → ℕ
 lower zero x = x
 lower (suc y) x = min (suc y) x
@@ -66,6 +71,7 @@ lower (suc y) x = min (suc y) x
 unfoldable pub looks : Region → (ℕ → Bool) → ℕ → ℕ → Bool
 looks R tk u i = eqb (R .tail i) u && not (tk (R .head i))
 
+-- "open, or shorten": arc i is followed from u, taken at length d
 unfoldable pub relax : Region → (ℕ → Bool) → ℕ → ℕ → ℕ → List ℕ → List ℕ
 relax R tk u d i best = cond (looks R tk u i) (set best (R .head i) (lower (getD best (R .head i) 0) (suc (d + R .weight i)))) best
 
@@ -74,12 +80,15 @@ unfoldable pub relaxTo : Region → (ℕ → Bool) → List ℕ → ℕ → ℕ 
 relaxTo R tk best u d zero = best
 relaxTo R tk best u d (suc i) = relax R tk u d i (relaxTo R tk best u d i)
 
+-- u marked as taken
 abbrev pub mark : State → ℕ → State
 mark s u = record { best = s .best; order = u ∷ s .order }
 
+-- u taken, and the arcs out of it followed
 unfoldable pub take1 : Region → State → ℕ → State
 take1 R s u = record { best = relaxTo R (taken (mark s u)) (s .best) u (lenAt (s .best) u) (R .m); order = u ∷ s .order }
 
+-- a step: stopped, or none is open, or the chosen node is taken
 unfoldable pub takeAt : Region → State → Bool → Option ℕ → State
 takeAt R s true o = s
 takeAt R s false none = s

@@ -38,11 +38,12 @@ abbrev pub fields : List ℕ → List (List ℕ)
 fields [] = []
 fields (b ∷ bs) = cond (isBlank b) (fields bs) (cond (goesOn bs) (joined b (fields bs)) ((b ∷ []) ∷ fields bs))
 
--- the next field, empty where none is left, and those after it
+-- the next field, empty where none is left
 abbrev pub first : List (List ℕ) → List ℕ
 first [] = []
 first (f ∷ fs) = f
 
+-- the fields after it
 abbrev pub others : List (List ℕ) → List (List ℕ)
 others [] = []
 others (f ∷ fs) = fs
@@ -72,10 +73,12 @@ digits a (b ∷ bs) = cond (isDigit b) (digits (a * 10 + (b - 48)) bs) NoNumber
 abbrev pub number : List ℕ → Number
 number f = cond (leb 1 (length f) && leb (length f) 9) (digits 0 f) NoNumber
 
+-- a number without a sign
 abbrev pub plus : Number → Signed
 plus (Value v) = At (pos v)
 plus NoNumber = NoCoordinate
 
+-- a number behind a minus sign; -0 is 0
 abbrev pub minus : Number → Signed
 minus (Value v) = At (negℤ (pos v))
 minus NoNumber = NoCoordinate
