@@ -13,11 +13,11 @@ use Rattle.meaning.specs.Scan.{any}
 use Rattle.meaning.specs.Taking.{State, memb, taken, lenAt, keyIn, isOpen, aimed, sitesOf, mark, take1, takeAt, start, choose, full, next, after, final, toSites}
 use Rattle.meaning.specs.Walk.{Walk, Shortest}
 use Rattle.meaning.proofs.Bools.{decT, and-both, and-make, or-cases, or-left, nor-both}
-use Rattle.meaning.proofs.Estimates.{Measure, sites-estimate, sites-under}
+use Rattle.meaning.proofs.Estimates.{Measure, sites-under}
 use Rattle.meaning.proofs.Exits.{shortest-unique, Picked, picked-under}
 use Rattle.meaning.proofs.Listed.{Listed, snoc-new, memb-snoc, Earlier, sites-of, taken-else, listed-after, long, aims, sh}
 use Rattle.meaning.proofs.Orders.{Asc, memb-cases}
-use Rattle.meaning.proofs.Relaxing.{Valid, Estimate, aimed-site, relaxTo-all}
+use Rattle.meaning.proofs.Relaxing.{Setting, aimed-site, relaxTo-all}
 use Rattle.meaning.proofs.Scans.{cond-false, any-of, any-is, First, IsFirst, first-is}
 use Rattle.meaning.proofs.States.{Has, start-zero, picked, taken-cons, taken-new, taken-old}
 
@@ -57,7 +57,7 @@ fills R k s x nf f = go (decT (isSite R x))
     go (inl t) = t
     go (inr z) = absurd (at z (or-cases (leb k (length (sitesOf R (x ∷ s .order)))) (not (any (aimed R (mark s x)) (R .n))) f))
 
-module _ (R : Region) (ok : Valid R) (pos : (i : ℕ) → i < R .m → 1 ≤ R .weight i) (est : (ℕ → Bool) → ℕ → ℕ) (fits : Estimate R est) (q k : ℕ) (below : q < R .n) where
+module _ {R : Region} {est : (ℕ → Bool) → ℕ → ℕ} {q : ℕ} (G : Setting R est q) (k : ℕ) where
   -- how the search came to a state: it is the first, or a node was taken that the rule picks
   pub data Came : State → Type 0 where
     begun : Came (start R q)
@@ -75,7 +75,7 @@ module _ (R : Region) (ok : Valid R) (pos : (i : ℕ) → i < R .m → 1 ≤ R .
   pub came-after : (i : ℕ) → Came (after R est k q i)
   unfolding after
   came-after zero = begun
-  came-after (suc i) = came-next (after R est k q i) (listed-after R ok pos est fits q k below i) (came-after i)
+  came-after (suc i) = came-next (after R est k q i) (listed-after G k i) (came-after i)
 
   -- no node is taken twice
   pub came-once : {s : State} → Came s → Asc _≢_ (s .order)
@@ -92,9 +92,9 @@ module _ (R : Region) (ok : Valid R) (pos : (i : ℕ) → i < R .m → 1 ≤ R .
   -- how long any seen length can be: it must fit its machine number
   pub lens : (W : ℕ) → ((i : ℕ) → i < R .m → R .weight i ≤ W) → {s : State} → Came s → (v d : ℕ) → Has s v d → d ≤ length (s .order) * W
   unfolding take1
-  lens W w begun v d h = let z = start-zero R q below v d h in omega arith
+  lens W w begun v d h = let z = start-zero R q (G .below) v d h in omega arith
   lens W w (took s x L c nf F) v d h =
-      relaxTo-all R ok (taken (mark s x)) (s .best) x (lenAt (s .best) x) (L .inv .size) (λ y e. e ≤ suc (length (s .order)) * W)
+      relaxTo-all R (G .valid) (taken (mark s x)) (s .best) x (lenAt (s .best) x) (L .inv .size) (λ y e. e ≤ suc (length (s .order)) * W)
       (λ y e z. let l = lens W w c y e z in omega arith)
       (λ i l t. let a = w i l in let b = lens W w c x (lenAt (s .best) x) (picked R est q s (L .inv) x F .has) in omega arith) (R .m) (omega arith) v d h
 
@@ -111,8 +111,8 @@ module _ (R : Region) (ok : Valid R) (pos : (i : ℕ) → i < R .m → 1 ≤ R .
         new : Shortest (ArcOf R) q x d → d + low x ≤ e
         new sx =
             let P = picked R est q s (L .inv) x F in
-            let a = shortest-unique sx (sh R ok pos est fits q k s L x F) in
-            let b = picked-under (L .inv .known) (fits (aimed R s) (aimed-site R s)) 1 (long R ok pos est fits q k) (isSite R) (aims R ok pos est fits q k s) P t e st old p in
+            let a = shortest-unique sx (sh G k s L x F) in
+            let b = picked-under (L .inv .known) (G .fits (aimed R s) (aimed-site R s)) 1 (long G k) (isSite R) (aims G k s) P t e st old p in
             let c = under s nf x in
             omega arith
 
@@ -137,7 +137,7 @@ module _ (R : Region) (ok : Valid R) (pos : (i : ℕ) → i < R .m → 1 ≤ R .
       got = taken-new s x x refl;
       site = sx;
       len = lenAt (s .best) x;
-      short = sh R ok pos est fits q k s L x F;
+      short = sh G k s L x F;
       within = λ v d t z. go v d z (taken-cons s x v t);
     }
       where
@@ -149,11 +149,11 @@ module _ (R : Region) (ok : Valid R) (pos : (i : ℕ) → i < R .m → 1 ≤ R .
 
         go : (v d : ℕ) → Shortest (ArcOf R) q v d → (x ≡ v) ⊎ T (taken s v) → d + low v ≤ lenAt (s .best) x
         go v d z (inl e) =
-            let a : d ≡ lenAt (s .best) x = shortest-unique (rw e z) (sh R ok pos est fits q k s L x F) in
+            let a : d ≡ lenAt (s .best) x = shortest-unique (rw e z) (sh G k s L x F) in
             let b = under s nf x in
-            let h = fits (aimed R s) (aimed-site R s) .at-site x (aims R ok pos est fits q k s x sx (P .untaken)) in
+            let h = G .fits (aimed R s) (aimed-site R s) .at-site x (aims G k s x sx (P .untaken)) in
             rw (← e) (omega arith)
-        go v d z (inr t) = bounded c v d t z x (lenAt (s .best) x) sx (P .untaken) (sh R ok pos est fits q k s L x F .walk)
+        go v d z (inr t) = bounded c v d t z x (lenAt (s .best) x) sx (P .untaken) (sh G k s L x F .walk)
 
 -- demand 3: where k sites are listed, no taken node's length and least straight line to any site exceed the last listed length
 pub asc-last : (E : ℕ → ℕ → Type 0) (p : List ℕ) (t : ℕ) → Asc E (p ++ (t ∷ [])) → (x : ℕ) → T (memb x p) → E x t
@@ -165,7 +165,7 @@ asc-last E (y ∷ p) t a x z = go (memb-cases y x p z) (asc-last E p t (a .1) x)
     go (inl e) ih = rw (← e) (a .0 t (snoc-new p t))
     go (inr w) ih = ih w
 
-module _ (R : Region) (ok : Valid R) (pos : (i : ℕ) → i < R .m → 1 ≤ R .weight i) (d : ℕ → ℕ → ℕ) (M : Measure R d) (q k : ℕ) (below : q < R .n) where
+module _ {R : Region} {d : ℕ → ℕ → ℕ} {q : ℕ} (M : Measure R d) (G : Setting R (toSites R d) q) (k : ℕ) where
   private-under : (s : State) → T (not (full R k s)) → (v : ℕ) → toSites R d (isSite R) v ≤ toSites R d (aimed R s) v
   unfolding full
   private-under s nf v =
@@ -174,18 +174,18 @@ module _ (R : Region) (ok : Valid R) (pos : (i : ℕ) → i < R .m → 1 ≤ R .
       sites-under R d (aimed R s) (aimed-site R s) (a .0) (a .2) v
 
   module _ (p : List ℕ) (t : ℕ) (list : sitesOf R ((final R (toSites R d) k q) .order) ≡ p ++ (t ∷ [])) (len : length (p ++ (t ∷ [])) ≡ k) where
-    came : Came R ok pos (toSites R d) (sites-estimate R d M) q k below (final R (toSites R d) k q)
+    came : Came G k (final R (toSites R d) k q)
     unfolding final
-    came = came-after R ok pos (toSites R d) (sites-estimate R d M) q k below (R .n)
+    came = came-after G k (R .n)
 
     listed : Listed R q k (final R (toSites R d) k q)
     unfolding final
-    listed = listed-after R ok pos (toSites R d) (sites-estimate R d M) q k below (R .n)
+    listed = listed-after G k (R .n)
 
     no-start : T (full R k (start R q)) → ⊥
     unfolding sitesOf
     no-start f =
-        let e = came-empty R ok pos (toSites R d) (sites-estimate R d M) q k below came f in
+        let e = came-empty G k came f in
         let l : length (p ++ (t ∷ [])) ≡ 0 = ap length (sym list) ∙ (rw e) in
         let m = length-append p (t ∷ []) in
         omega arith
@@ -194,8 +194,8 @@ module _ (R : Region) (ok : Valid R) (pos : (i : ℕ) → i < R .m → 1 ≤ R .
     unfolding full
     is-full = or-left (leb k (length (sitesOf R ((final R (toSites R d) k q) .order)))) (not (any (aimed R (final R (toSites R d) k q)) (R .n))) (rw list (le→leb k (length (p ++ (t ∷ []))) (omega arith)))
 
-    lst : Last R ok pos (toSites R d) (sites-estimate R d M) q k below (toSites R d (isSite R)) private-under (final R (toSites R d) k q)
-    lst = last-of R ok pos (toSites R d) (sites-estimate R d M) q k below (toSites R d (isSite R)) private-under came is-full no-start
+    lst : Last G k (toSites R d (isSite R)) private-under (final R (toSites R d) k q)
+    lst = last-of G k (toSites R d (isSite R)) private-under came is-full no-start
 
     last-le : (e : ℕ) → Shortest (ArcOf R) q t e → lst .len ≤ e
     unfolding taken

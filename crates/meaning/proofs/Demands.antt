@@ -10,7 +10,6 @@ use lib.Dec.{T}
 use lib.ListN.{length, length-append, length-map}
 use Rattle.meaning.specs.declared.Limits.{Limits}
 use Rattle.meaning.specs.Limits.{base}
-use Rattle.meaning.specs.Straight.{straight}
 use Rattle.meaning.specs.Region.{Tables, Rooms, regionOf, xAt, yAt, ArcOf, LeastArc, isSite}
 use Rattle.meaning.specs.Walk.{Walk, Shortest}
 use Rattle.meaning.specs.Taking.{taken, lenAt, sitesOf, next, after, final, takenCount}
@@ -20,7 +19,7 @@ use Rattle.meaning.specs.Listing.{Stop, Right, Listing}
 use Rattle.meaning.specs.Search.{aimOf, backToBack}
 use Rattle.meaning.proofs.Counting.{count, count-le}
 use Rattle.meaning.proofs.Exits.{one, join, shortest-unique, shortest-front}
-use Rattle.meaning.proofs.Relaxing.{Estimate}
+use Rattle.meaning.proofs.Relaxing.{Estimate, Setting}
 use Rattle.meaning.proofs.States.{Has}
 use Rattle.meaning.proofs.Orders.{Asc}
 use Rattle.meaning.proofs.Estimates.{straight-measure}
@@ -31,15 +30,18 @@ use Rattle.meaning.proofs.Bounds.{Came, came-after, came-once, lens, wi
 use Rattle.meaning.proofs.Parallel.{any-walk, shortest-same}
 use Rattle.meaning.proofs.Alls.{all-map}
 use Rattle.meaning.proofs.Listings.{nodes, nodes-stops, listing-unique, list-right}
-use Rattle.meaning.proofs.Passed.{Sound, sound-valid, sound-weights, sound-long, sound-query}
+use Rattle.meaning.proofs.Passed.{Sound, sound-long, sound-setting}
 use Rattle.meaning.proofs.Outcomes.{aim-fits, list-fits}
 
 module _ {L : Limits} {t : Tables} {q k : ℕ} {r : Rooms} (S : Sound L t q k r) (est : (ℕ → Bool) → ℕ → ℕ) (fits : Estimate (regionOf t) est) where
-  listed-at : (i : ℕ) → Listed (regionOf t) (q - 1) k (after (regionOf t) est k (q - 1) i)
-  listed-at = listed-after (regionOf t) (sound-valid S) (sound-weights S) est fits (q - 1) k (sound-query S)
+  abbrev G : Setting (regionOf t) est (q - 1)
+  G = sound-setting S est fits
 
-  came-at : (i : ℕ) → Came (regionOf t) (sound-valid S) (sound-weights S) est fits (q - 1) k (sound-query S) (after (regionOf t) est k (q - 1) i)
-  came-at = came-after (regionOf t) (sound-valid S) (sound-weights S) est fits (q - 1) k (sound-query S)
+  listed-at : (i : ℕ) → Listed (regionOf t) (q - 1) k (after (regionOf t) est k (q - 1) i)
+  listed-at = listed-after G k
+
+  came-at : (i : ℕ) → Came G k (after (regionOf t) est k (q - 1) i)
+  came-at = came-after G k
 
   -- each taken node has its shortest length
   pub taken-shortest : (i v : ℕ) → T (taken (after (regionOf t) est k (q - 1) i) v)
@@ -51,7 +53,7 @@ module _ {L : Limits} {t : Tables} {q k : ℕ} {r : Rooms} (S : Sound L t q k r)
 
   -- "No node is taken twice."
   pub taken-once : (i : ℕ) → Asc _≢_ (after (regionOf t) est k (q - 1) i .order)
-  taken-once i = came-once (regionOf t) (sound-valid S) (sound-weights S) est fits (q - 1) k (sound-query S) (came-at i)
+  taken-once i = came-once G k (came-at i)
 
   -- at most N nodes are taken
   pub taken-most : (i : ℕ) → length (after (regionOf t) est k (q - 1) i .order) ≤ t .n
@@ -64,13 +66,13 @@ module _ {L : Limits} {t : Tables} {q k : ℕ} {r : Rooms} (S : Sound L t q k r)
   -- the run stops within N steps
   pub run-stops : next (regionOf t) est k (final (regionOf t) est k (q - 1)) ≡ final (regionOf t) est k (q - 1)
   run-stops =
-      stays (regionOf t) (sound-valid S) (sound-weights S) est fits (q - 1) k (final (regionOf t) est k (q - 1))
-      (final-stopped (regionOf t) (sound-valid S) (sound-weights S) est fits (q - 1) k (sound-query S))
+      stays G k (final (regionOf t) est k (q - 1))
+      (final-stopped G k)
 
   -- every seen length, the open nodes' too, is at most N times the largest weight
   pub lengths-most : (i v d : ℕ) → Has (after (regionOf t) est k (q - 1) i) v d → d ≤ L .nodes * L .weight
   lengths-most i v d h =
-      let a = lens (regionOf t) (sound-valid S) (sound-weights S) est fits (q - 1) k (sound-query S) (L .weight) (λ j l. S .good j l .weight .1) (came-at i) v d h in
+      let a = lens G k (L .weight) (λ j l. S .good j l .weight .1) (came-at i) v d h in
       let b = taken-most i in
       let c = S .nodes .1 in
       let m : length (after (regionOf t) est k (q - 1) i .order) * L .weight ≤ L .nodes * L .weight = mul-le-mul-right (L .weight) (omega arith) in
@@ -88,8 +90,8 @@ module _ {L : Limits} {t : Tables} {q k : ℕ} {r : Rooms} (S : Sound L t q k r)
   own-routes : All (λ l. length (l .way) ≤ t .n) (listOf (regionOf t) est k (q - 1))
   own-routes =
       all-map (Right (ArcOf (regionOf t)) (isSite (regionOf t)) (q - 1)) (λ l. length (l .way) ≤ t .n)
-      (λ l x. route-fits (regionOf t) (sound-valid S) (sound-weights S) (q - 1) (sound-query S) (x .route) (l .len) (x .short)) (listOf (regionOf t) est k (q - 1))
-      (list-right (regionOf t) (sound-valid S) (sound-weights S) est fits (q - 1) k (sound-query S) .right)
+      (λ l x. route-fits G (x .route) (l .len) (x .short)) (listOf (regionOf t) est k (q - 1))
+      (list-right G k .right)
 
   pub routes-fit : (list : List Stop) → Listing (LeastArc (regionOf t)) (isSite (regionOf t)) (q - 1) k list → All (λ l. length (l .way) ≤ t .n) list
   routes-fit list x = subst (λ (l : List Stop). All (λ s. length (s .way) ≤ t .n) l) (sym (list-is list x)) own-routes
@@ -126,7 +128,7 @@ pub within-kth : {L : Limits} {t : Tables} {q k : ℕ} {r : Rooms} → Sound L t
     → Listing (LeastArc (regionOf t)) (isSite (regionOf t)) (q - 1) k (front ++ last ∷ []) → length (front ++ last ∷ []) ≡ k
     → (v d : ℕ) → T (taken (final (regionOf t) (aimOf t) k (q - 1)) v) → Shortest (LeastArc (regionOf t)) (q - 1) v d → d + aimOf t (isSite (regionOf t)) v ≤ last .len
 within-kth {t = t} {q = q} {k = k} S front last x full v d z s =
-    within-last (regionOf t) (sound-valid S) (sound-weights S) (straight (xAt t) (yAt t)) (straight-measure (regionOf t) (xAt t) (yAt t) (sound-long S)) (q - 1) k (sound-query S)
+    within-last (straight-measure (regionOf t) (xAt t) (yAt t) (sound-long S)) (sound-setting S (aimOf t) (aim-fits S)) k
     (nodes front) (last .node) same count (last .len) (shortest-same (regionOf t) (q - 1) (last .node) (last .len) .1 (end front (x .right) .short)) v d z
     (shortest-same (regionOf t) (q - 1) v d .1 s)
   where

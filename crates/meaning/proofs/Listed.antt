@@ -18,7 +18,7 @@ use Rattle.meaning.proofs.Bools.{T-true, T-false, true-T, and-both, and
 use Rattle.meaning.proofs.Counting.{count, count-more, count-full, count-none}
 use Rattle.meaning.proofs.Exits.{Picked, Exit, exit, picked-shortest, picked-first, before-taken, still, shortest-unique}
 use Rattle.meaning.proofs.Orders.{Asc, FirstK, memb-head, memb-tail, memb-cases}
-use Rattle.meaning.proofs.Relaxing.{Valid, Estimate, aimed-site}
+use Rattle.meaning.proofs.Relaxing.{Setting, Valid, aimed-site}
 use Rattle.meaning.proofs.Scans.{any-of, any-is, First, IsFirst, first-is}
 use Rattle.meaning.proofs.States.{Has, Inv, inv-start, inv-take, picked, taken-cons, taken-new, taken-old, open-of, has-below}
 
@@ -133,10 +133,9 @@ taken-else s u v n = go (eqb u v) (λ t. n (eqb→eq u v t))
     go true z = absurd (z tt)
     go false z = refl
 
-module _ (R : Region) (ok : Valid R) (pos : (i : ℕ) → i < R .m → 1 ≤ R .weight i) (est : (ℕ → Bool) → ℕ → ℕ)
-    (fits : Estimate R est) (q k : ℕ) where
+module _ {R : Region} {est : (ℕ → Bool) → ℕ → ℕ} {q : ℕ} (G : Setting R est q) (k : ℕ) where
   pub long : (u v w : ℕ) → ArcOf R u v w → 1 ≤ w
-  long u v w a = let p = pos (a .0) (a .1) in let e = a .4 in omega arith
+  long u v w a = let p = G .positive (a .0) (a .1) in let e = a .4 in omega arith
 
   pub aims : (s : State) (v : ℕ) → T (isSite R v) → T (not (taken s v)) → T (aimed R s v)
   unfolding aimed
@@ -147,10 +146,10 @@ module _ (R : Region) (ok : Valid R) (pos : (i : ℕ) → i < R .m → 1 ≤ R .
     P = picked R est q s (L .inv) v F
 
     pub sh : Shortest (ArcOf R) q v (lenAt (s .best) v)
-    sh = picked-shortest (L .inv .known) (fits (aimed R s) (aimed-site R s)) 1 long P
+    sh = picked-shortest (L .inv .known) (G .fits (aimed R s) (aimed-site R s)) 1 long P
 
     new-first : T (isSite R v) → (t : ℕ) → T (isSite R t) → T (not (taken (mark s v) t)) → Earlier (ArcOf R) q v t
-    new-first z t st o = (lenAt (s .best) v, sh, λ e w. go e (picked-first (L .inv .known) (fits (aimed R s) (aimed-site R s)) 1 long (isSite R) (aims s) P z t e st old (omega arith) w))
+    new-first z t st o = (lenAt (s .best) v, sh, λ e w. go e (picked-first (L .inv .known) (G .fits (aimed R s) (aimed-site R s)) 1 long (isSite R) (aims s) P z t e st old (omega arith) w))
       where
         old : T (not (taken s t))
         old = not-T (taken s t) (λ y. T-not (taken (mark s v) t) o (taken-old s v t y))
@@ -198,7 +197,7 @@ module _ (R : Region) (ok : Valid R) (pos : (i : ℕ) → i < R .m → 1 ≤ R .
         at : v ≡ t → Dec (0 < r) → T (taken (mark s v) x)
         at e (yes l) =
             let h′ : Shortest (ArcOf R) q v (a + r) = rw e h in
-            taken-old s v x (before-taken (L .inv .known) (fits (aimed R s) (aimed-site R s)) 1 long (isSite R) (aims s) P (rw e st) x a r p (rw e w) l (shortest-unique h′ sh))
+            taken-old s v x (before-taken (L .inv .known) (G .fits (aimed R s) (aimed-site R s)) 1 long (isSite R) (aims s) P (rw e st) x a r p (rw e w) l (shortest-unique h′ sh))
         at e (no n) = taken-new s v x (e ∙ sym (still long w (omega arith)))
 
         go : (v ≡ t) ⊎ T (taken s t) → T (taken (mark s v) x)
@@ -207,7 +206,7 @@ module _ (R : Region) (ok : Valid R) (pos : (i : ℕ) → i < R .m → 1 ≤ R .
 
     pub listed-take : length (sitesOf R (s .order)) < k → Listed R q k (take1 R s v)
     unfolding take1 taken
-    listed-take l = record { inv = inv-take R ok est fits k q s (L .inv) v F; later = later-new; asc = asc-new; size = size-new l; closed = closed-new; tally = tally-new }
+    listed-take l = record { inv = inv-take G k s (L .inv) v F; later = later-new; asc = asc-new; size = size-new l; closed = closed-new; tally = tally-new }
 
   not-full : (s : State) → T (not (full R k s)) → length (sitesOf R (s .order)) < k
   unfolding full
@@ -222,10 +221,10 @@ module _ (R : Region) (ok : Valid R) (pos : (i : ℕ) → i < R .m → 1 ≤ R .
       go false z none f = L
       go false z (some v) f = listed-take s L v f (not-full s (z tt))
 
-  pub listed-start : q < R .n → Listed R q k (start R q)
+  pub listed-start : Listed R q k (start R q)
   unfolding start taken memb sitesOf
-  listed-start l = record {
-    inv = inv-start R q l;
+  listed-start = record {
+    inv = inv-start R q (G .below);
     later = λ a t. absurd t;
     asc = tt;
     size = omega arith;
@@ -233,10 +232,10 @@ module _ (R : Region) (ok : Valid R) (pos : (i : ℕ) → i < R .m → 1 ≤ R .
     tally = count-none (taken (start R q)) (R .n) (λ v. refl);
   }
 
-  pub listed-after : q < R .n → (i : ℕ) → Listed R q k (after R est k q i)
+  pub listed-after : (i : ℕ) → Listed R q k (after R est k q i)
   unfolding after
-  listed-after l zero = listed-start l
-  listed-after l (suc i) = listed-next (after R est k q i) (listed-after l i)
+  listed-after zero = listed-start
+  listed-after (suc i) = listed-next (after R est k q i) (listed-after i)
 
   -- ---- where it stops
 
@@ -278,13 +277,13 @@ module _ (R : Region) (ok : Valid R) (pos : (i : ℕ) → i < R .m → 1 ≤ R .
       go none f = refl
       go (some v) f = absurd (T-not (taken s v) (and-both (ltb 0 (getD (s .best) v 0)) (not (taken s v)) (f .holds) .1) (true-T (taken s v) (count-full (taken s) (R .n) (L .tally ∙ e) v (f .below))))
 
-  pub final-stopped : q < R .n → Stopped (final R est k q)
+  pub final-stopped : Stopped (final R est k q)
   unfolding final
-  final-stopped l = go (paced (R .n))
+  final-stopped = go (paced (R .n))
     where
       go : Stopped (after R est k q (R .n)) ⊎ (length ((after R est k q (R .n)) .order) ≡ R .n) → Stopped (after R est k q (R .n))
       go (inl t) = t
-      go (inr e) = inr (all-taken (after R est k q (R .n)) (listed-after l (R .n)) e)
+      go (inr e) = inr (all-taken (after R est k q (R .n)) (listed-after (R .n)) e)
 
   -- ---- the list
 
@@ -293,7 +292,7 @@ module _ (R : Region) (ok : Valid R) (pos : (i : ℕ) → i < R .m → 1 ≤ R .
   rest-of s L st v c o = go st
     where
       none-left : IsFirst (isOpen s) (keyIn R est s) (R .n) none → ⊥
-      none-left f = at (exit (L .inv .known) (fits (aimed R s) (aimed-site R s)) 1 long (c .1 .1))
+      none-left f = at (exit (L .inv .known) (G .fits (aimed R s) (aimed-site R s)) 1 long (c .1 .1))
         where
           at : T (taken s v) ⊎ Exit (Has s) (taken s) (est (aimed R s)) 1 v (c .1 .0) → ⊥
           at (inl t) = T-not (taken s v) o t
@@ -301,7 +300,7 @@ module _ (R : Region) (ok : Valid R) (pos : (i : ℕ) → i < R .m → 1 ≤ R .
 
       stop : T (leb k (length (sitesOf R (s .order)))) ⊎ T (not (any (aimed R s) (R .n))) → length (sitesOf R (s .order)) ≡ k
       stop (inl t) = let a = leb→le k _ t in let b = L .size in omega arith
-      stop (inr t) = absurd (T-not (any (aimed R s) (R .n)) t (any-of (aimed R s) (R .n) v (site-below R ok v (c .0)) (aims s v (c .0) o)))
+      stop (inr t) = absurd (T-not (any (aimed R s) (R .n)) t (any-of (aimed R s) (R .n) v (site-below R (G .valid) v (c .0)) (aims s v (c .0) o)))
 
       go : Stopped s → length (sitesOf R (s .order)) ≡ k
       go (inl t) = stop (or-cases (leb k (length (sitesOf R (s .order)))) (not (any (aimed R s) (R .n))) t)
@@ -320,6 +319,6 @@ module _ (R : Region) (ok : Valid R) (pos : (i : ℕ) → i < R .m → 1 ≤ R .
       out v z t = not-T (taken s v) (λ y. T-not (memb v (sitesOf R (s .order))) t (sites-of R (s .order) v y z))
 
   -- the search's list is 01's list
-  pub final-list : q < R .n → TheList R q k (sitesOf R ((final R est k q) .order))
+  pub final-list : TheList R q k (sitesOf R ((final R est k q) .order))
   unfolding final
-  final-list l = is-list (final R est k q) (listed-after l (R .n)) (final-stopped l)
+  final-list = is-list (final R est k q) (listed-after (R .n)) final-stopped

@@ -16,7 +16,7 @@ use Rattle.meaning.specs.Listing.{Stop, Before, Ordered, Right, Listing}
 use Rattle.meaning.proofs.Bools.{decT}
 use Rattle.meaning.proofs.Alls.{all-zip, all-map}
 use Rattle.meaning.proofs.Exits.{shortest-unique}
-use Rattle.meaning.proofs.Relaxing.{Valid, Estimate}
+use Rattle.meaning.proofs.Relaxing.{Setting}
 use Rattle.meaning.proofs.Orders.{FirstK, Asc, unique, memb-head, memb-tail, memb-cases, memb-not}
 use Rattle.meaning.proofs.Listed.{Listed, TheList, Earlier, Reached, earlier-asym, sites-in, listed-after, final-list}
 use Rattle.meaning.proofs.Trace.{route, stops, listOf}
@@ -155,7 +155,7 @@ module _ (R : Region) (s : State) where
   listed-not [] v a = tt
   listed-not (x ∷ vs) v a = memb-not x v vs (a .0) (listed-not vs v (a .1))
 
-module _ (R : Region) (ok : Valid R) (pos : (i : ℕ) → i < R .m → 1 ≤ R .weight i) (est : (ℕ → Bool) → ℕ → ℕ) (fits : Estimate R est) (q k : ℕ) (below : q < R .n) where
+module _ {R : Region} {est : (ℕ → Bool) → ℕ → ℕ} {q : ℕ} (G : Setting R est q) (k : ℕ) where
   module _ (s : State) (L : Listed R q k s) where
     right-at : (v : ℕ) → T (taken s v) × T (isSite R v) → Right (ArcOf R) (isSite R) q (record { node = v; len = lenAt (s .best) v; way = route R s v })
     right-at v p =
@@ -164,7 +164,7 @@ module _ (R : Region) (ok : Valid R) (pos : (i : ℕ) → i < R .m → 1 ≤ R .
         record {
           is-site = p .1;
           short = subst (λ (x : ℕ). Shortest (ArcOf R) q v x) (omega arith) (m .2);
-          route = route-is R q s v (listed-ends R q k s L v (p .0) (p .1)) pos;
+          route = route-is R q s v (listed-ends R q k s L v (p .0) (p .1)) (G .positive);
         }
 
     -- x comes before any walk to y, by the length that the state holds
@@ -193,4 +193,4 @@ module _ (R : Region) (ok : Valid R) (pos : (i : ℕ) → i < R .m → 1 ≤ R .
   unfolding listOf final taken
   list-right =
       let s = final R est k q in
-      listing-at s (listed-after R ok pos est fits q k below (R .n)) (sitesOf R (s .order)) (λ v t. sites-in R (s .order) v t) (final-list R ok pos est fits q k below)
+      listing-at s (listed-after G k (R .n)) (sitesOf R (s .order)) (λ v t. sites-in R (s .order) v t) (final-list G k)

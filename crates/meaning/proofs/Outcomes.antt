@@ -20,7 +20,7 @@ use Rattle.meaning.proofs.Estimates.{sites-estimate, straight-measure}
 use Rattle.meaning.proofs.Trace.{listOf}
 use Rattle.meaning.proofs.Listings.{listing-unique, list-right}
 use Rattle.meaning.proofs.Alike.{least-alike, listing-alike}
-use Rattle.meaning.proofs.Passed.{Sound, sound, sound-valid, sound-weights, sound-long, sound-query}
+use Rattle.meaning.proofs.Passed.{Sound, sound, sound-long, sound-setting}
 
 -- ---- no second outcome fits
 
@@ -47,7 +47,7 @@ pub list-fits : {L : Limits} {t : Tables} {q k : ℕ} {r : Rooms} → Sound L t 
     → Listing (LeastArc (regionOf t)) (isSite (regionOf t)) (q - 1) k (listOf (regionOf t) est k (q - 1))
 list-fits {t = t} {q = q} {k = k} S est fits =
     listing-alike (least-alike (regionOf t) (q - 1)) (λ v. (λ z. z, λ z. z))
-    (list-right (regionOf t) (sound-valid S) (sound-weights S) est fits (q - 1) k (sound-query S))
+    (list-right (sound-setting S est fits) k)
 
 abbrev pub answerOf : Verdict → Tables → ℕ → ℕ → Answer
 answerOf Fine t q k = Listed (length (listOf (regionOf t) (aimOf t) k (q - 1))) (takenCount (regionOf t) (aimOf t) k (q - 1))

@@ -17,7 +17,7 @@ use Rattle.meaning.specs.Region.{Tables, Rooms, regionOf, xAt, yAt}
 use Rattle.meaning.specs.Checks.{need, andThen, firstFault, countsFit, tablesFit, roomsFit, pointFault, arcFault, siteFault, inspect}
 use Rattle.meaning.proofs.Bools.{and-both}
 use Rattle.meaning.proofs.Scans.{any-of}
-use Rattle.meaning.proofs.Relaxing.{Valid}
+use Rattle.meaning.proofs.Relaxing.{Estimate, Setting}
 use Rattle.meaning.proofs.Estimates.{Long}
 
 -- ---- a verdict that is fine
@@ -144,18 +144,17 @@ sound L t q k r e =
     }
 
 module _ {L : Limits} {t : Tables} {q k : ℕ} {r : Rooms} (S : Sound L t q k r) where
-  pub sound-valid : Valid (regionOf t)
-  sound-valid = record {
-    tails = λ i l. let g = S .good i l .tail in omega arith;
-    heads = λ i l. let g = S .good i l .head in omega arith;
-    sites = λ j l. let g = S .stands j l in omega arith;
-  }
-
-  pub sound-weights : (i : ℕ) → i < t .m → 1 ≤ getD (t .weights) i 0
-  sound-weights i l = S .good i l .weight .0
-
   pub sound-long : Long (regionOf t) (xAt t) (yAt t)
   sound-long i l = S .good i l .long
 
-  pub sound-query : q - 1 < t .n
-  sound-query = let a = S .query in omega arith
+  pub sound-setting : (est : (ℕ → Bool) → ℕ → ℕ) → Estimate (regionOf t) est → Setting (regionOf t) est (q - 1)
+  sound-setting est fits = record {
+    valid = record {
+      tails = λ i l. let g = S .good i l .tail in omega arith;
+      heads = λ i l. let g = S .good i l .head in omega arith;
+      sites = λ j l. let g = S .stands j l in omega arith;
+    };
+    positive = λ i l. S .good i l .weight .0;
+    fits = fits;
+    below = let a = S .query in omega arith;
+  }

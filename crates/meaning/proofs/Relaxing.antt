@@ -25,6 +25,13 @@ pub record Valid (R : Region) : Type 0 where
 abbrev pub Estimate : Region → ((ℕ → Bool) → ℕ → ℕ) → Type 0
 Estimate R est = (S : ℕ → Bool) → ((s : ℕ) → T (S s) → T (isSite R s)) → Consistent (ArcOf R) S (est S)
 
+-- what the theory of the search rests on: nodes that exist, arcs longer than nothing, a consistent estimate, a query inside
+pub record Setting (R : Region) (est : (ℕ → Bool) → ℕ → ℕ) (q : ℕ) : Type 0 where
+  pub valid : Valid R
+  pub positive : (i : ℕ) → i < R .m → 1 ≤ R .weight i
+  pub fits : Estimate R est
+  pub below : q < R .n
+
 pub aimed-site : (R : Region) (s : State) (v : ℕ) → T (aimed R s v) → T (isSite R v)
 unfolding aimed
 aimed-site R s v t = and-both (isSite R v) (not (taken s v)) t .0

@@ -17,7 +17,7 @@ use Rattle.meaning.proofs.Bools.{and-both, and-make}
 use Rattle.meaning.proofs.Exits.{one, join, shortest-unique, shortest-front}
 use Rattle.meaning.proofs.Listed.{Listed, memb-snoc, asc-snoc}
 use Rattle.meaning.proofs.Orders.{Asc, asc-fits, memb-cases}
-use Rattle.meaning.proofs.Relaxing.{Valid}
+use Rattle.meaning.proofs.Relaxing.{Setting}
 use Rattle.meaning.proofs.Scans.{any-of, any-is, First, IsFirst, first-is}
 use Rattle.meaning.proofs.States.{Has, Inv}
 use Rattle.meaning.proofs.Trace.{arcGives, prev, back, route}
@@ -208,7 +208,7 @@ Nearer R q x y = (d e : ℕ) × Shortest (ArcOf R) q x d × Shortest (ArcOf R) q
 pub nearer-irr : (R : Region) (q x : ℕ) → Nearer R q x x → ⊥
 nearer-irr R q x a = let e = shortest-unique (a .2) (a .3) in let l = a .4 in omega arith
 
-module _ (R : Region) (ok : Valid R) (pos : (i : ℕ) → i < R .m → 1 ≤ R .weight i) (q : ℕ) (below : q < R .n) where
+module _ {R : Region} {est : (ℕ → Bool) → ℕ → ℕ} {q : ℕ} (G : Setting R est q) where
   -- every node of the route, and how far it is
   route-lens : {v : ℕ} {p : List ℕ} → RouteTo (ArcOf R) q v p → (d : ℕ) → Shortest (ArcOf R) q v d → (x : ℕ) → T (memb x p) → (e : ℕ) × Shortest (ArcOf R) q x e × (e ≤ d) × (x < R .n)
   unfolding memb
@@ -223,7 +223,7 @@ module _ (R : Region) (ok : Valid R) (pos : (i : ℕ) → i < R .m → 1 ≤ R .
       sum = shortest-unique (l .gives .whole) s
 
       head : v < R .n
-      head = let a = l .gives .arc in let h = ok .heads (a .0) (a .1) in let e = a .3 in omega arith
+      head = let a = l .gives .arc in let h = G .valid .heads (a .0) (a .1) in let e = a .3 in omega arith
 
       go : T (memb x p) ⊎ (v ≡ x) → (T (memb x p) → (e : ℕ) × Shortest (ArcOf R) q x e × (e ≤ l .gives .len) × (x < R .n)) → (e : ℕ) × Shortest (ArcOf R) q x e × (e ≤ d) × (x < R .n)
       go (inl z) ih = let k = ih z in let y = k .2 in (k .0, k .1, omega (arith, sum), k .3)
@@ -238,7 +238,7 @@ module _ (R : Region) (ok : Valid R) (pos : (i : ℕ) → i < R .m → 1 ≤ R .
       near y k =
           let g = l .gives in
           let a = g .arc in
-          let w = pos (a .0) (a .1) in
+          let w = G .positive (a .0) (a .1) in
           let z = a .4 in
           let j = k .2 in
           (k .0, g .len + g .weight, k .1, g .whole, omega arith)

@@ -15,7 +15,7 @@ use Rattle.meaning.specs.Taking.{key, State, memb, taken, lenAt, keyIn, 
 use Rattle.meaning.specs.Walk.{Walk, here, step, Shortest}
 use Rattle.meaning.proofs.Bools.{decT, and-both, and-make, or-cases, or-left, or-right}
 use Rattle.meaning.proofs.Exits.{Known, Picked, picked-shortest}
-use Rattle.meaning.proofs.Relaxing.{Valid, Estimate, aimed-site, Within, within-has, relaxTo-length, relaxTo-keeps, relaxTo-taken, relaxTo-hits, relaxTo-sound}
+use Rattle.meaning.proofs.Relaxing.{Setting, Valid, aimed-site, Within, within-has, relaxTo-length, relaxTo-keeps, relaxTo-taken, relaxTo-hits, relaxTo-sound}
 use Rattle.meaning.proofs.Scans.{First, IsFirst, first-is}
 
 abbrev pub Has : State → ℕ → ℕ → Type 0
@@ -219,12 +219,12 @@ module _ (R : Region) (est : (ℕ → Bool) → ℕ → ℕ) (q : ℕ) (s : Stat
 
 -- ---- every state
 
-module _ (R : Region) (ok : Valid R) (est : (ℕ → Bool) → ℕ → ℕ) (fits : Estimate R est) (k q : ℕ) where
+module _ {R : Region} {est : (ℕ → Bool) → ℕ → ℕ} {q : ℕ} (G : Setting R est q) (k : ℕ) where
   pub inv-take : (s : State) → Inv R q s → (v : ℕ) → First (isOpen s) (keyIn R est s) (R .n) v → Inv R q (take1 R s v)
   unfolding take1 aft
   inv-take s I v F =
       let P = picked R est q s I v F in
-      inv-aft R ok q s I v (lenAt (s .best) v) (P .has) (F .below) (picked-shortest (I .known) (fits (aimed R s) (aimed-site R s)) 0 (λ x y w a. omega arith) P)
+      inv-aft R (G .valid) q s I v (lenAt (s .best) v) (P .has) (F .below) (picked-shortest (I .known) (G .fits (aimed R s) (aimed-site R s)) 0 (λ x y w a. omega arith) P)
 
   pub inv-next : (s : State) → Inv R q s → Inv R q (next R est k s)
   unfolding next takeAt choose
@@ -235,7 +235,7 @@ module _ (R : Region) (ok : Valid R) (est : (ℕ → Bool) → ℕ → ℕ) (fit
       go false none f = I
       go false (some v) f = inv-take s I v f
 
-  pub inv-after : q < R .n → (i : ℕ) → Inv R q (after R est k q i)
+  pub inv-after : (i : ℕ) → Inv R q (after R est k q i)
   unfolding after
-  inv-after l zero = inv-start R q l
-  inv-after l (suc i) = inv-next (after R est k q i) (inv-after l i)
+  inv-after zero = inv-start R q (G .below)
+  inv-after (suc i) = inv-next (after R est k q i) (inv-after i)
