@@ -19,7 +19,7 @@ use Rattle.meaning.specs.declared.Entry.{Entry}
 use Rattle.meaning.specs.declared.Entry.the-variants.{Arc, Point, Site}
 use Rattle.meaning.specs.declared.Read.the-variants.{Accepted}
 use Rattle.meaning.proofs.Reading.{AllFine, IsOf, AllOf, Distinct, NodeFine, node-fine, neither, entriesOf, accepted}
-use Rattle.meaning.proofs.Tables.{taken}
+use Rattle.meaning.proofs.Tables.{was-read}
 use Rattle.meaning.proofs.Counting.{count, count-none, count-more, count-full}
 
 -- ---- storing each entry's value at its node
@@ -141,6 +141,6 @@ each-node L text n xs ys c es h =
 pub coordinates-accepted : {L : Limits} {text : List ℕ} {n : ℕ} {xs ys xs′ ys′ : List ℤ} {a m : ℕ} → CoordinatesRead L text n xs ys xs′ ys′ (Accepted a m)
     → EachNode n (entriesOf Coordinates n (lines text)) xs ys xs′ ys′
 coordinates-accepted {L} {text} {n} {xs} {ys} {a} {m} g =
-    let k = taken (coordinateReading L text n xs ys) a m (g .answer-is) in
+    let k = was-read (coordinateReading L text n xs ys) a m (g .answer-is) in
     let es = accepted (coordinateRules L n (min (length xs) (length ys))) text (k .counts) (k .entries) (k .was) .entries in
     rw (g .xs-are, g .ys-are, k .was, ← es) (each-node L text n xs ys (k .counts) (k .entries) (k .was))

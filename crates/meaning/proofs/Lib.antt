@@ -1,26 +1,35 @@
+-- Theorems about the definitions.
+
+-- tests, lists, scans and counting
 pub mod Bools
 pub mod Alls
 pub mod Counting
 pub mod Scans
+-- the readings: the order of refusals, what an accepted text has, no second outcome, the tables, worked texts
 pub mod Refusals
 pub mod Reading
 pub mod Unique
 pub mod Tables
 pub mod Coordinates
 pub mod Texts
-pub mod Roots
+-- what a best-first search with a consistent estimate may conclude, over any arcs
 pub mod Exits
+pub mod Orders
+-- the taking rule: following arcs, every state, the sites taken, the routes, how far it goes
 pub mod Relaxing
 pub mod States
-pub mod Orders
-pub mod Estimates
 pub mod Listed
 pub mod Trace
 pub mod Routes
 pub mod Bounds
-pub mod Parallel
+-- the straight line: its root, and the estimate that it gives
+pub mod Roots
+pub mod Estimates
+-- the list: no second one fits, the search's own is one, arcs that are alike have the same
 pub mod Listings
+pub mod Parallel
 pub mod Alike
+-- the public calls: accepted regions, outcomes, demands, stretches, other orders of the tables, cases A to K
 pub mod Passed
 pub mod Outcomes
 pub mod Demands

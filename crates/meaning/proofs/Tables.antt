@@ -56,16 +56,16 @@ in-order value R text c es xs h l =
 
 -- ---- what an accepted answer of a reader says of its tables
 
-pub record Taken (r : Reading) (n m : ℕ) : Type 0 where
+pub record WasRead (r : Reading) (n m : ℕ) : Type 0 where
   pub counts : Counts
   pub entries : List Entry
   pub nodes : counts .nodes ≡ n
   pub rows : counts .rows ≡ m
   pub was : r ≡ read counts entries
 
-pub taken : (r : Reading) (n m : ℕ) → Accepted n m ≡ answered r → Taken r n m
-taken (refused number place) n m h = let z : _≡_ {A = ℕ} 0 1 = cc in absurd (omega arith)
-taken (read c es) n m h = record { counts = c; entries = es; nodes = cc; rows = cc; was = refl }
+pub was-read : (r : Reading) (n m : ℕ) → Accepted n m ≡ answered r → WasRead r n m
+was-read (refused number place) n m h = let z : _≡_ {A = ℕ} 0 1 = cc in absurd (omega arith)
+was-read (read c es) n m h = record { counts = c; entries = es; nodes = cc; rows = cc; was = refl }
 
 pub record GraphHeld (text t h w t′ h′ w′ : List ℕ) (m : ℕ) : Type 0 where
   pub tails : InOrder nodeOf m (entriesOf Graph 0 (lines text)) t t′
@@ -74,7 +74,7 @@ pub record GraphHeld (text t h w t′ h′ w′ : List ℕ) (m : ℕ) : Type 0 w
 
 pub graph-accepted : {L : Limits} {text t h w t′ h′ w′ : List ℕ} {n m : ℕ} → GraphRead L text t h w t′ h′ w′ (Accepted n m) → GraphHeld text t h w t′ h′ w′ m
 graph-accepted {L} {text} {t} {h} {w} {n} {m} g =
-    let k = taken (graphReading L text t h w) n m (g .answer-is) in
+    let k = was-read (graphReading L text t h w) n m (g .answer-is) in
     let R : Rules = graphRules L (min (length t) (min (length h) (length w))) in
     rw (g .tails-are, g .heads-are, g .weights-are, ← k .rows) record {
       tails = in-order nodeOf R text (k .counts) (k .entries) t (k .was) (omega arith);
@@ -85,5 +85,5 @@ graph-accepted {L} {text} {t} {h} {w} {n} {m} g =
 pub sites-accepted : {L : Limits} {text : List ℕ} {n : ℕ} {s s′ : List ℕ} {a m : ℕ} → SitesRead L text n s s′ (Accepted a m)
     → InOrder nodeOf m (entriesOf Sites n (lines text)) s s′
 sites-accepted {L} {text} {n} {s} {a} {m} g =
-    let k = taken (siteReading L text n s) a m (g .answer-is) in
+    let k = was-read (siteReading L text n s) a m (g .answer-is) in
     rw (g .sites-are, ← k .rows) (in-order nodeOf (siteRules L n (length s)) text (k .counts) (k .entries) s (k .was) (omega arith))

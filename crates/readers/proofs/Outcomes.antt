@@ -19,7 +19,7 @@ use Rattle.meaning.specs.declared.Read.the-variants.{Refused, Accepted}
 use Rattle.meaning.proofs.Reading as Known
 use Rattle.meaning.proofs.Alls.{all-map}
 use Rattle.meaning.proofs.Reading.{entriesOf, accepted, front-sets, arc-fine, node-fine}
-use Rattle.meaning.proofs.Tables.{Taken, taken}
+use Rattle.meaning.proofs.Tables.{WasRead, was-read}
 use Rattle.meaning.proofs.Unique.{front-kept, node-kept}
 use Rattle.meaning.specs.Lists.{All}
 use Rattle.readers.specs.Writing.{InTable, SmallArc, SmallSite, ArcsFit, PointsFit, SitesFit}
@@ -30,8 +30,8 @@ module _ (R : Rules) (text : List ℕ) (n m : ℕ) (was : Accepted n m ≡ answe
   abbrev entries : List Entry
   entries = entriesOf (R .kind) (R .given) (lines text)
 
-  told : Taken (reading R text) n m
-  told = taken (reading R text) n m was
+  told : WasRead (reading R text) n m
+  told = was-read (reading R text) n m was
 
   known : Known.Accepted R (lines text) (told .counts) (told .entries)
   known = accepted R text (told .counts) (told .entries) (told .was)
