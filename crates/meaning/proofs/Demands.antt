@@ -4,7 +4,7 @@ use mathlib.Core.Logic.{_≢_}
 use mathlib.Core.Bool.{Bool}
 use mathlib.Core.List.{List, [], _∷_, _++_}
 use Prim.Native.Nat.{ℕ, suc, _+_, _-_, _*_, _^_, _≤_, _<_}
-use native.Mathlib.Nat.{mul-le-mul-right}
+use native.Mathlib.Nat.{mul-le-mul, mul-le-mul-right}
 use native.Mathlib.Omega.{arith}
 use lib.Dec.{T}
 use lib.ListN.{length, length-append, length-map}
@@ -121,6 +121,14 @@ module _ {L : Limits} {t : Tables} {q k : ℕ} {r : Rooms} (S : Sound L t q k r)
 pub lengths-fit : {t : Tables} {q k : ℕ} {r : Rooms} → Sound base t q k r → (est : (ℕ → Bool) → ℕ → ℕ) → Estimate (regionOf t) est
     → (i v d : ℕ) → Has (after (regionOf t) est k (q - 1) i) v d → suc d < 2 ^ 32
 lengths-fit S est fits i v d h = let a = lengths-most S est fits i v d h in omega arith
+
+-- and route ends within 16
+pub ends-fit : {t : Tables} {q k : ℕ} {r : Rooms} → Sound base t q k r → (list : List Stop) → Listing (LeastArc (regionOf t)) (isSite (regionOf t)) (q - 1) k list
+    → length (backToBack list) < 2 ^ 16
+ends-fit {t} {q} {k} S list x =
+    let a = rooms-suffice S (aimOf t) (aim-fits S) list x in
+    let b : k * t .n ≤ 32 * 1024 = mul-le-mul (S .lines .1) (S .nodes .1) in
+    omega arith
 
 -- Demand 3: "Where k sites are listed, no node is taken whose shortest length plus its straight line, rounded down, to the closest of all the sites
 -- exceeds the k-th listed length."
