@@ -13,7 +13,7 @@ use Rattle.meaning.specs.Region.{Tables, Rooms, isSite}
 use Rattle.meaning.specs.Taking.{memb, taken, isOpen, aimed, leastAt, toSites, sitesOf, lower, looks, relax, relaxTo, take1, takeAt, start, full, choose, next, after, final, takenCount}
 use Rattle.meaning.specs.Lists.{All}
 use Rattle.meaning.specs.Listing.{Stop}
-use Rattle.meaning.specs.Checks.{andThen, firstFault, pointFault, arcFault, siteFault, inspect}
+use Rattle.meaning.specs.Checks.{andThen, firstFault, orElse, pointFault, arcFault, siteFault, inspect}
 use Rattle.meaning.specs.Search.{backToBack, endsAfter, filled, Searched}
 use Rattle.meaning.proofs.Trace.{arcGives, prev, back, route, stops, listOf}
 use Rattle.meaning.proofs.Outcomes.{answerOf, roomsAfter, searched-fits}
@@ -122,7 +122,7 @@ abbrev want : Case → Outcome
 want c = record { answer = answer (c .wanted); rooms = rooms (c .wanted) (nines (c .tables .n) (c .k)) (c .tables .n) }
 
 computed : map run cases ≡ map want cases
-unfolding any better first gap rootTo root straight isSite memb taken isOpen aimed leastAt toSites sitesOf lower looks relax relaxTo take1 takeAt start full choose next after final takenCount andThen firstFault pointFault arcFault siteFault inspect backToBack endsAfter arcGives prev back route stops listOf
+unfolding any better first gap rootTo root straight isSite memb taken isOpen aimed leastAt toSites sitesOf lower looks relax relaxTo take1 takeAt start full choose next after final takenCount andThen firstFault orElse pointFault arcFault siteFault inspect backToBack endsAfter arcGives prev back route stops listOf
 computed = refl
 
 hold : (c : Case) → run c ≡ want c → Holds c

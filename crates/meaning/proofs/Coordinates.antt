@@ -18,7 +18,8 @@ use Rattle.meaning.specs.declared.Counts.{Counts}
 use Rattle.meaning.specs.declared.Entry.{Entry}
 use Rattle.meaning.specs.declared.Entry.the-variants.{Arc, Point, Site}
 use Rattle.meaning.specs.declared.Read.the-variants.{Accepted}
-use Rattle.meaning.proofs.Reading.{AllFine, IsOf, AllOf, Distinct, NodeFine, node-fine, neither, entriesOf, accepted}
+use Rattle.meaning.proofs.Tests.{neither}
+use Rattle.meaning.proofs.Reading.{AllFine, IsOf, AllOf, Distinct, NodeFine, node-fine, entriesOf, accepted}
 use Rattle.meaning.proofs.Tables.{was-read}
 use Rattle.meaning.proofs.Counting.{count, count-none, count-more, count-full}
 

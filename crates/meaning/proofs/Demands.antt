@@ -72,7 +72,7 @@ module _ {L : Limits} {t : Tables} {q k : ℕ} {r : Rooms} (S : Sound L t q k r)
   -- every seen length, the open nodes' too, is at most N times the largest weight
   pub lengths-most : (i v d : ℕ) → Has (after (regionOf t) est k (q - 1) i) v d → d ≤ L .nodes * L .weight
   lengths-most i v d h =
-      let a = lens G k (L .weight) (λ j l. S .good j l .weight .1) (came-at i) v d h in
+      let a = lens G k (L .weight) (λ j l. S .good j l .fine .weight-high) (came-at i) v d h in
       let b = taken-most i in
       let c = S .nodes .1 in
       let m : length (after (regionOf t) est k (q - 1) i .order) * L .weight ≤ L .nodes * L .weight = mul-le-mul-right (L .weight) (omega arith) in

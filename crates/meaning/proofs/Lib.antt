@@ -2,6 +2,7 @@
 
 -- tests, lists, scans and counting
 pub mod Bools
+pub mod Tests
 pub mod Alls
 pub mod Counting
 pub mod Scans

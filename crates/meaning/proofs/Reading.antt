@@ -27,6 +27,7 @@ use Rattle.meaning.specs.declared.Entry.{Entry}
 use Rattle.meaning.specs.declared.Entry.the-variants.{Arc, Point, Site}
 use Rattle.meaning.specs.declared.Line.{Line}
 use Rattle.meaning.specs.declared.Line.the-variants.{Nothing, Problem, Data, Malformed}
+use Rattle.meaning.proofs.Tests.{both, neither, passed, within-is}
 use Rattle.meaning.proofs.Alls.{all-more}
 use Rattle.meaning.proofs.Refusals.{line-order}
 
@@ -95,20 +96,6 @@ pub record Accepted (R : Rules) (ls : List (List ℕ)) (c : Counts) (es : List E
   pub fine : AllFine (R .limits) (c .nodes) es
   pub of-kind : AllOf (R .kind) es
   pub distinct : DistinctBy (R .kind) es
-
--- ---- tests
-
-pub both : (a b : Bool) → a && b ≡ true → (a ≡ true) × (b ≡ true)
-both true b h = (refl, h)
-both false b h = let z : _≡_ {A = ℕ} 0 1 = cc in absurd (omega arith)
-
--- a chain of tests that comes to 0 passed this one
-pub passed : (b : Bool) (x k : ℕ) → 1 ≤ k → cond b x k ≡ 0 → (b ≡ true) × (x ≡ 0)
-passed true x k l h = (refl, h)
-passed false x k l h = absurd (omega arith)
-
-pub within-is : (lo x hi : ℕ) → within lo x hi ≡ true → (lo ≤ x) × (x ≤ hi)
-within-is lo x hi h = let b = both (leb lo x) (leb x hi) h in (leb-true lo x (b .0), leb-true x hi (b .1))
 
 pub never : {number place : ℕ} {c : Counts} {es : List Entry} → refused number place ≡ read c es → ⊥
 never h = let z : _≡_ {A = ℕ} 0 1 = cc in omega arith
@@ -239,10 +226,6 @@ given-more v (d ∷ es) e = on (eqb (nodeOf d) v) (given-more v es e)
     on : (b : Bool) → isGiven v (es ++ e ∷ []) ≡ isGiven v es || eqb (nodeOf e) v → b || isGiven v (es ++ e ∷ []) ≡ b || isGiven v es || eqb (nodeOf e) v
     on true h = refl
     on false h = h
-
-pub neither : (a b : Bool) → a || b ≡ false → (a ≡ false) × (b ≡ false)
-neither true b h = let z : _≡_ {A = ℕ} 0 1 = cc in absurd (omega arith)
-neither false b h = (refl, h)
 
 distinct-more : (es : List Entry) (e : Entry) → Distinct es → isGiven (nodeOf e) es ≡ false → Distinct (es ++ e ∷ [])
 distinct-more [] e a h = (refl, tt)

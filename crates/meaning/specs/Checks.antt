@@ -3,12 +3,13 @@ use mathlib.Core.Bool.{Bool, cond, _&&_}
 use Prim.Native.Nat.{ℕ, zero, suc, _+_, _-_, _*_}
 use lib.Dec.{leb, eqb}
 use lib.ListN.{length, getD}
-use Rattle.meaning.specs.Limits.{countOutside, nodeOutside, valueOutside, givenTwice, tableShort, arcShort, queryOutside, kOutside, roomShort}
-use Rattle.meaning.specs.Files.{within, isWeight, isCoordinate}
+use Rattle.meaning.specs.Limits.{countOutside, valueOutside, givenTwice, tableShort, arcShort, queryOutside, kOutside, roomShort}
+use Rattle.meaning.specs.Files.{within, isCoordinate, entryFault}
 use Rattle.meaning.specs.Scan.{any}
 use Rattle.meaning.specs.Straight.{longEnough}
 use Rattle.meaning.specs.Region.{Tables, Rooms, xAt, yAt}
 use Rattle.meaning.specs.declared.Limits.{Limits}
+use Rattle.meaning.specs.declared.Entry.the-variants.{Arc, Site}
 use Rattle.meaning.specs.declared.Verdict.{Verdict}
 use Rattle.meaning.specs.declared.Verdict.the-variants.{Fine, Faulty}
 
@@ -46,19 +47,24 @@ roomsFit n k r =
 unfoldable pub pointFault : Limits → Tables → ℕ → ℕ
 pointFault L t v = cond (isCoordinate L (xAt t v) && isCoordinate L (yAt t v)) 0 valueOutside
 
--- "arcs in order, each 5, 6, 10"
+-- an entry's fault, or the test after it
+unfoldable pub orElse : ℕ → ℕ → ℕ
+orElse zero later = later
+orElse (suc fault) later = suc fault
+
+-- "arcs in order, each 5, 6, 10": 5 and 6 are a reader's
 unfoldable pub arcFault : Limits → Tables → ℕ → ℕ
 arcFault L t i =
-    cond (within 1 (getD (t .tails) i 0) (t .n) && within 1 (getD (t .heads) i 0) (t .n))
-    (cond (isWeight L (getD (t .weights) i 0))
-    (cond (longEnough (xAt t) (yAt t) (getD (t .tails) i 0 - 1) (getD (t .heads) i 0 - 1) (getD (t .weights) i 0)) 0 arcShort)
-    valueOutside)
-    nodeOutside
+    let u = getD (t .tails) i 0 in
+    let v = getD (t .heads) i 0 in
+    let w = getD (t .weights) i 0 in
+    orElse (entryFault L (t .n) (Arc u v w)) (cond (longEnough (xAt t) (yAt t) (u - 1) (v - 1) w) 0 arcShort)
 
 -- "sites in order, each 5, 8": "For 8 it is the later of the two entries."
-unfoldable pub siteFault : Tables → ℕ → ℕ
-siteFault t j =
-    cond (within 1 (getD (t .sites) j 0) (t .n)) (cond (any (λ i. eqb (getD (t .sites) i 0) (getD (t .sites) j 0)) j) givenTwice 0) nodeOutside
+unfoldable pub siteFault : Limits → Tables → ℕ → ℕ
+siteFault L t j =
+    let v = getD (t .sites) j 0 in
+    orElse (entryFault L (t .n) (Site v)) (cond (any (λ i. eqb (getD (t .sites) i 0) v) j) givenTwice 0)
 
 -- "Its order: all counts 4, tables 9, query 11, k 12, rooms 13; then coordinates .. then arcs .. then sites"
 unfoldable pub inspect : Limits → Tables → ℕ → ℕ → Rooms → Verdict
@@ -68,4 +74,4 @@ inspect L t q k r =
     (need (within 1 q (t .n)) queryOutside
     (need (within 1 k (L .k)) kOutside
     (need (roomsFit (t .n) k r) roomShort
-    (andThen (firstFault (pointFault L t) (t .n)) (andThen (firstFault (arcFault L t) (t .m)) (firstFault (siteFault t) (t .s))))))))
+    (andThen (firstFault (pointFault L t) (t .n)) (andThen (firstFault (arcFault L t) (t .m)) (firstFault (siteFault L t) (t .s))))))))

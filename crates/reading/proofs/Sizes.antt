@@ -8,6 +8,7 @@ use lib.Signed.{ltZ, nonNeg}
 use native.Mathlib.Omega.{arith}
 use borrow.Author.Tests.{ltb-true}
 use Rattle.meaning.specs.Files.{entryFault}
+use Rattle.meaning.proofs.Tests.{not-both}
 use Rattle.meaning.specs.declared.Limits.{Limits}
 use Rattle.meaning.specs.declared.Entry.the-variants.{Point}
 use mir.Syntax.{w32, w64}
@@ -20,9 +21,6 @@ wideOf z = toZ w64 (ofZ w64 (toZ w32 (ofZ w32 z)))
 
 abbrev pub lessOf : ℤ → ℤ
 lessOf z = toZ w64 (ofZ w64 (pos 0 -ℤ wideOf z))
-
-pub not-both : false ≡ true → ⊥
-not-both e = let z : _≡_ {A = ℕ} 0 1 = cc in omega arith
 
 module _ (z : ℤ) (f : SFits w32 z) where
   wide-fits : SFits w64 z

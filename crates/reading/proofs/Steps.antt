@@ -8,14 +8,14 @@ use lib.Dec.{leb, eqb}
 use native.Mathlib.Omega.{arith}
 use borrow.Author.Tests.{eq-eqb, ne-eqb, eqb-true, eqb-false, le-leb, lt-leb}
 use Rattle.meaning.specs.Files.{within, mostRows, agrees, countsFault, entryFault, nodeOf, isGiven, repeated, Progress, awaiting, begun, step, finish, answered}
-use Rattle.meaning.proofs.Reading.{both, passed, within-is, node-fine, given-more}
+use Rattle.meaning.proofs.Tests.{not-both, both, passed, within-is}
+use Rattle.meaning.proofs.Reading.{node-fine, given-more}
 use Rattle.meaning.specs.declared.Rules.{Rules}
 use Rattle.meaning.specs.declared.Counts.{Counts}
 use Rattle.meaning.specs.declared.Entry.{Entry}
 use Rattle.meaning.specs.declared.Entry.the-variants.{Arc, Point, Site}
 use Rattle.meaning.specs.declared.Line.the-variants.{Problem, Data}
 use Rattle.meaning.specs.declared.Read.the-variants.{Refused, Accepted}
-use Rattle.reading.proofs.Sizes.{not-both}
 use Rattle.reading.specs.Marks.{isMarked, Added}
 use Rattle.reading.specs.Follows.{stateOf, onlyOnce, Tracks, Keeps, Follows}
 use Rattle.reading.specs.declared.State.{State}
