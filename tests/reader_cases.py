@@ -4,6 +4,7 @@ reading of the paper says of each. The gate runs the library on the first and co
 
 Run at the repository's root:  python3 tests/reader_cases.py
 A case is a line `KIND NODES ROOM LENGTH` (a letter g, c or s, then three numbers of five digits), LENGTH bytes of text, and LF.
+A graph text is handed no N: there NODES is the length of the table of weights, so that columns of unequal length are tried.
 The lent tables hold 7 everywhere before each case. A result is `x NUMBER PLACE` or `= NODES ROWS`, then a digest of each lent table.
 """
 import pathlib
@@ -49,7 +50,7 @@ def form(kind, line):
 
 def counts_of(kind, handed, room, numbers):
     n = numbers[0] if kind in "gc" else handed
-    rows = {"g": lambda: numbers[1], "c": lambda: n, "s": lambda: numbers[0]}[kind]()
+    rows = numbers[1] if kind == "g" else numbers[0]
     most = {"g": ARCS, "c": NODES, "s": SITES}[kind]
     if not 1 <= n <= NODES or rows > most or (kind == "c" and n != handed):
         raise Refused(4)
@@ -73,6 +74,8 @@ def judge_entry(kind, n, entry, seen):
 
 def read(kind, text, handed, room):
     """The answer, and the data where the text is accepted."""
+    if kind == "g":
+        room = min(room, handed)
     if len(text) > TEXT:
         return ("x", 1, 0), None
     if kind in "cs" and not 1 <= handed <= NODES:
@@ -109,9 +112,9 @@ def digest(table):
     return sum_
 
 
-def tables_after(kind, room, data):
-    columns = {"g": 3, "c": 2, "s": 1}[kind]
-    tables = [[7] * room for _ in range(columns)]
+def tables_after(kind, n, room, data):
+    rooms = {"g": [room, room, n], "c": [room, room], "s": [room]}[kind]
+    tables = [[7] * size for size in rooms]
     for place, entry in enumerate(data or []):
         for column, value in enumerate(entry[1:] if kind == "c" else entry):
             tables[column][entry[0] - 1 if kind == "c" else place] = value
@@ -123,11 +126,11 @@ def tables_after(kind, room, data):
 def worked():
     """The paper's region, as the pack has it."""
     pack = pathlib.Path("packs/worked")
-    return [(kind, (pack / name).read_bytes(), n, room) for kind, name, n, room in [("g", "map.gr", 0, 4096), ("c", "map.co", 6, 1024), ("s", "sites.ss", 6, 128)]]
+    return [(kind, (pack / name).read_bytes(), n, room) for kind, name, n, room in [("g", "map.gr", 4096, 4096), ("c", "map.co", 6, 1024), ("s", "sites.ss", 6, 128)]]
 
 
 def borders():
-    g = lambda t, room=4096: ("g", t, 0, room)
+    g = lambda t, room=4096, weights=4096: ("g", t, weights, room)
     c = lambda t, n=2, room=1024: ("c", t, n, room)
     s = lambda t, n=9, room=128: ("s", t, n, room)
     one = b"p sp 2 1\n"
@@ -140,6 +143,7 @@ def borders():
         one + b"a 1 1 1\na 1 1\n", one + b"p sp 2 1\n", one + b"p sp 9999 9999\n", one + b"p sp 2\n", one + b"a 1 1 1\nc end", one + b"a 1 1 1\n\r\n \n", b"p sp 2 0\na 1 1 1\n", b"p sp 5000 9\n", one + b"a 1 2 3\x00\n",
     ])
     yield from (g(b"p sp 2 2\na 1 2 3\na 2 1 4\n", room) for room in (0, 1, 2, 3))
+    yield from (g(b"p sp 2 2\na 1 2 3\na 2 1 4\n", 4096, weights) for weights in (0, 1, 2, 3))
     yield g(b"p sp 2000 2\n", 0)
     two = b"p aux sp co 2\n"
     yield from (c(t) for t in [
@@ -162,7 +166,7 @@ def borders():
 
 def full():
     arcs = b"".join(b"a %d %d %d\n" % (1 + i % 999, 1 + i * 7 % 999, 1 + i % 9) for i in range(4096))
-    yield "g", b"p sp 999 4096\n" + arcs, 0, 4096
+    yield "g", b"p sp 999 4096\n" + arcs, 4096, 4096
     order = list(range(1, 1025))
     random.Random(1).shuffle(order)
     points = b"".join(b"v %d %d -%d\n" % (v, v * 5, v) for v in order)
@@ -202,7 +206,7 @@ def damaged(count):
                 text = b"\n".join(lines)
             else:
                 text = text[: rng.randrange(len(text) + 1)]
-        yield kind, text, rng.choice([n, n, n, 6, 7, 5, 0, 1025]), rng.choice([room, room, 8, 7, 6, 3, 2])
+        yield kind, text, rng.choice([n, n, n, n, 6, 7, 5, 0, 1025]), rng.choice([room, room, room, 8, 7, 6, 3, 2])
 
 
 def main():
@@ -211,7 +215,7 @@ def main():
         for kind, text, n, room in cases:
             given.write(b"%s %05d %05d %05d\n" % (kind.encode(), n, room, len(text)) + text + b"\n")
             answer, data = read(kind, text, n, room)
-            digests = [digest(t) for t in tables_after(kind, room, data)]
+            digests = [digest(t) for t in tables_after(kind, n, room, data)]
             wanted.write(" ".join(map(str, [*answer, *digests])) + "\n")
     print(len(cases), "cases")
 

@@ -102,8 +102,8 @@ fn graph_in(s: &[u8], tails: &mut [u16], heads: &mut [u16], weights: &mut [u32])
     digest_wide(weights);
 }
 
-fn graph(s: &[u8], room: usize)
-    requires { ⌜ room ≤ 4096 ⌝ }
+fn graph(s: &[u8], room: usize, last: usize)
+    requires { ⌜ (room ≤ 4096) × (last ≤ 4096) ⌝ }
 {
     let mut tails = [7u16; 4096];
     let mut heads = [7u16; 4096];
@@ -112,7 +112,7 @@ fn graph(s: &[u8], room: usize)
         s,
         &mut tails[..room],
         &mut heads[..room],
-        &mut weights[..room],
+        &mut weights[..last],
     );
 }
 
@@ -144,7 +144,7 @@ fn sites(s: &[u8], nodes: usize, room: usize)
 
 fn run(kind: u8, s: &[u8], nodes: usize, room: usize) {
     if kind == 103 {
-        graph(s, least(room, 4096));
+        graph(s, least(room, 4096), least(nodes, 4096));
     } else {
         if kind == 99 {
             coordinates(s, nodes, least(room, 1024));
