@@ -16,8 +16,8 @@ use Rattle.meaning.specs.Files.{within, isCoordinate, entryFault}
 use Rattle.meaning.specs.Scan.{any}
 use Rattle.meaning.specs.Straight.{squares, longEnough}
 use Rattle.meaning.specs.Region.{Tables, Rooms, regionOf, xAt, yAt}
-use Rattle.meaning.specs.Checks.{need, andThen, firstFault, orElse, countsFit, tablesFit, roomsFit, pointFault, arcFault, siteFault, inspect}
-use Rattle.meaning.proofs.Tests.{both, passed, failed, within-is}
+use Rattle.meaning.specs.Checks.{need, andThen, firstFault, countsFit, tablesFit, roomsFit, pointFault, arcFault, siteFault, inspect}
+use Rattle.meaning.proofs.Tests.{both, passed, failed, within-is, else-zero}
 use Rattle.meaning.proofs.Reading.{ArcFine, arc-fine, NodeFine, site-fine}
 use Rattle.meaning.proofs.Scans.{any-of}
 use Rattle.meaning.proofs.Relaxing.{Estimate, Setting}
@@ -54,11 +54,6 @@ all-fine f (suc n) e j l = go (decLt j n) (all-fine f n (then-fine (firstFault f
     go (no z) ih =
         let c : j ≡ n = omega arith in
         ap f c ∙ entry-fine (f n) n (then-fine (firstFault f n) (cond (eqb (f n) 0) Fine (Faulty (f n) (n + 1))) e .1)
-
-else-zero : (a b : ℕ) → orElse a b ≡ 0 → (a ≡ 0) × (b ≡ 0)
-unfolding orElse
-else-zero zero b h = (refl, h)
-else-zero (suc a) b h = absurd (omega arith)
 
 -- ---- an accepted region
 

@@ -6,10 +6,10 @@ use mathlib.Core.Bool.{Bool, true, false, _&&_, _||_, or-comm}
 use lib.ListN.{length, length-append}
 use lib.Dec.{leb, eqb}
 use native.Mathlib.Omega.{arith}
-use borrow.Author.Tests.{eq-eqb, ne-eqb, eqb-true, eqb-false, le-leb, lt-leb}
+use borrow.Author.Tests.{eq-eqb, ne-eqb, eqb-true, eqb-false, leb-false, lt-leb}
 use Rattle.meaning.specs.Files.{within, mostRows, agrees, countsFault, entryFault, nodeOf, isGiven, repeated, Progress, awaiting, begun, step, finish, answered}
-use Rattle.meaning.proofs.Tests.{not-both, both, passed, within-is}
-use Rattle.meaning.proofs.Reading.{node-fine, given-more}
+use Rattle.meaning.proofs.Tests.{not-both, both, passed, failed, within-is, else-zero, else-later, else-first}
+use Rattle.meaning.proofs.Reading.{NodeFine, node-fine, given-more}
 use Rattle.meaning.specs.declared.Rules.{Rules}
 use Rattle.meaning.specs.declared.Counts.{Counts}
 use Rattle.meaning.specs.declared.Entry.{Entry}
@@ -17,7 +17,7 @@ use Rattle.meaning.specs.declared.Entry.the-variants.{Arc, Point, Site}
 use Rattle.meaning.specs.declared.Line.the-variants.{Problem, Data}
 use Rattle.meaning.specs.declared.Read.the-variants.{Refused, Accepted}
 use Rattle.reading.specs.Marks.{isMarked, Added}
-use Rattle.reading.specs.Follows.{stateOf, onlyOnce, Tracks, Keeps, Follows}
+use Rattle.reading.specs.Follows.{stateOf, onlyOnce, tooMany, dataFault, Tracks, Keeps, Follows}
 use Rattle.reading.specs.declared.State.{State}
 use Rattle.reading.specs.declared.Step.the-variants.{On, Stop}
 
@@ -75,50 +75,67 @@ module _ (R : Rules) (e : Entry) (s : State) where
   data-early seen awaiting q h = refl
   data-early seen (begun d es) q h = absurd (not-both (sym (rw q at h)))
 
+  -- no fault: room for one more entry, and it passes its tests
+  pub data-fine : dataFault (R .limits) s e ≡ 0 → (s .count < s .rows) × (entryFault (R .limits) (s .nodes) e ≡ 0)
+  data-fine f =
+      let a = else-zero (tooMany (s .rows) (s .count)) (entryFault (R .limits) (s .nodes) e) f in
+      (leb-false (s .rows) (s .count) (failed (leb (s .rows) (s .count)) 7 0 (omega arith) (a .0) .0), a .1)
+
+  pub data-node : dataFault (R .limits) s e ≡ 0 → NodeFine (s .nodes) (nodeOf e)
+  data-node f = node-fine (R .limits) (s .nodes) e (data-fine f .1)
+
   module _ (h : s .begun ≡ true) where
-    pub data-many : (seen : List ℕ) (p : Progress) → s ≡ stateOf p → s .rows ≤ s .count → Follows (R .limits .nodes) (Stop 7) seen (step R p (Data e))
-    data-many seen awaiting q l = absurd (not-both (rw q at h))
-    data-many seen (begun d es) q l = rw (le-leb (d .rows) (length es) (rw q at l)) refl
+    pub data-fault : (seen : List ℕ) (p : Progress) (fault : ℕ) → s ≡ stateOf p → fault ≡ dataFault (R .limits) s e → (fault ≡ 0 → ⊥)
+        → Follows (R .limits .nodes) (Stop fault) seen (step R p (Data e))
+    data-fault seen awaiting fault q f z = absurd (not-both (rw q at h))
+    data-fault seen (begun d es) fault q f z = on (leb (d .rows) (length es)) refl
+      where
+        same : fault ≡ dataFault (R .limits) (stateOf (begun d es)) e
+        same = f ∙ ap (λ (t : State). dataFault (R .limits) t e) q
 
-    module _ (l : s .count < s .rows) where
-      pub data-fault : (seen : List ℕ) (p : Progress) (fault : ℕ) → s ≡ stateOf p → fault ≡ entryFault (R .limits) (s .nodes) e → (fault ≡ 0 → ⊥)
-          → Follows (R .limits .nodes) (Stop fault) seen (step R p (Data e))
-      data-fault seen awaiting fault q f z = absurd (not-both (rw q at h))
-      data-fault seen (begun d es) fault q f z =
-          let g : fault ≡ entryFault (R .limits) (d .nodes) e = f ∙ ap (λ (t : State). entryFault (R .limits) (t .nodes) e) q in
-          rw (lt-leb (d .rows) (length es) (rw q at l), ← g, ne-eqb fault 0 z) refl
+        on : (b : Bool) → leb (d .rows) (length es) ≡ b → Follows (R .limits .nodes) (Stop fault) seen (step R (begun d es) (Data e))
+        on true t = rw t (same ∙ rw t (else-first 7 (entryFault (R .limits) (d .nodes) e) (λ o. omega arith)))
+        on false t =
+            let g : fault ≡ entryFault (R .limits) (d .nodes) e = same ∙ rw t (else-later 0 (entryFault (R .limits) (d .nodes) e) refl) in
+            rw (t, ← g, ne-eqb fault 0 z) refl
 
-      module _ (z : entryFault (R .limits) (s .nodes) e ≡ 0) where
-        here : (d : Counts) (es : List Entry) → s ≡ stateOf (begun d es) → entryFault (R .limits) (d .nodes) e ≡ 0
-        here d es q = ap (λ (t : State). entryFault (R .limits) (t .nodes) e) (sym q) ∙ z
+    module _ (f : dataFault (R .limits) s e ≡ 0) where
+      l : s .count < s .rows
+      l = data-fine f .0
 
-        -- what the code asked of the marks
-        module _ (seen : List ℕ) (wide : s .nodes ≤ 32 * length seen) (node : ℕ) (node-is : node ≡ nodeOf e) (twice : Bool) (twice-is : twice ≡ onlyOnce e (isMarked seen (node - 1))) where
-          low : 1 ≤ nodeOf e
-          low = node-fine (R .limits) (s .nodes) e z .low
+      z : entryFault (R .limits) (s .nodes) e ≡ 0
+      z = data-fine f .1
 
-          high : nodeOf e ≤ 32 * length seen
-          high = omega (arith, node-fine (R .limits) (s .nodes) e z .high)
+      here : (d : Counts) (es : List Entry) → s ≡ stateOf (begun d es) → entryFault (R .limits) (d .nodes) e ≡ 0
+      here d es q = ap (λ (t : State). entryFault (R .limits) (t .nodes) e) (sym q) ∙ z
 
-          again : (es : List Entry) → Tracks seen es → repeated e es ≡ twice
-          again es tr =
-              repeated-is e es ∙ ap (onlyOnce e) (sym (tracked seen es tr (nodeOf e) low high)) ∙ ap (λ (v : ℕ). onlyOnce e (isMarked seen (v - 1))) (sym node-is) ∙ sym twice-is
+      -- what the code asked of the marks
+      module _ (seen : List ℕ) (wide : s .nodes ≤ 32 * length seen) (node : ℕ) (node-is : node ≡ nodeOf e) (twice : Bool) (twice-is : twice ≡ onlyOnce e (isMarked seen (node - 1))) where
+        low : 1 ≤ nodeOf e
+        low = node-fine (R .limits) (s .nodes) e z .low
 
-          pub data-twice : (p : Progress) → Keeps (R .limits .nodes) s seen p → twice ≡ true → Follows (R .limits .nodes) (Stop 8) seen (step R p (Data e))
-          data-twice awaiting k t = absurd (not-both (rw (k .state) at h))
-          data-twice (begun d es) k t = rw (lt-leb (d .rows) (length es) (rw (k .state) at l), here d es (k .state), again es (k .tracks) ∙ t) refl
+        high : nodeOf e ≤ 32 * length seen
+        high = omega (arith, node-fine (R .limits) (s .nodes) e z .high)
 
-          pub data-on : (seen′ : List ℕ) (p : Progress) → Keeps (R .limits .nodes) s seen p → twice ≡ false → Added seen (node - 1) seen′
-              → Follows (R .limits .nodes) (On (record { begun = true; nodes = s .nodes; rows = s .rows; count = s .count + 1 })) seen′ (step R p (Data e))
-          data-on seen′ awaiting k t a = absurd (not-both (rw (k .state) at h))
-          data-on seen′ (begun d es) k t a =
-              rw (lt-leb (d .rows) (length es) (rw (k .state) at l), here d es (k .state), again es (k .tracks) ∙ t) (record {
-                state =
-                    ap (λ (t : State). record { begun = true; nodes = t .nodes; rows = t .rows; count = t .count + 1 }) (k .state)
-                    ∙ ap (λ (n : ℕ). record { begun = true; nodes = d .nodes; rows = d .rows; count = n }) (sym (length-append es (e ∷ [])));
-                tracks = track-on seen es (k .tracks) seen′ e low (subst (λ (v : ℕ). Added seen (v - 1) seen′) node-is a);
-                few = k .few;
-              })
+        again : (es : List Entry) → Tracks seen es → repeated e es ≡ twice
+        again es tr =
+            repeated-is e es ∙ ap (onlyOnce e) (sym (tracked seen es tr (nodeOf e) low high)) ∙ ap (λ (v : ℕ). onlyOnce e (isMarked seen (v - 1))) (sym node-is) ∙ sym twice-is
+
+        pub data-twice : (p : Progress) → Keeps (R .limits .nodes) s seen p → twice ≡ true → Follows (R .limits .nodes) (Stop 8) seen (step R p (Data e))
+        data-twice awaiting k t = absurd (not-both (rw (k .state) at h))
+        data-twice (begun d es) k t = rw (lt-leb (d .rows) (length es) (rw (k .state) at l), here d es (k .state), again es (k .tracks) ∙ t) refl
+
+        pub data-on : (seen′ : List ℕ) (p : Progress) → Keeps (R .limits .nodes) s seen p → twice ≡ false → Added seen (node - 1) seen′
+            → Follows (R .limits .nodes) (On (record { begun = true; nodes = s .nodes; rows = s .rows; count = s .count + 1 })) seen′ (step R p (Data e))
+        data-on seen′ awaiting k t a = absurd (not-both (rw (k .state) at h))
+        data-on seen′ (begun d es) k t a =
+            rw (lt-leb (d .rows) (length es) (rw (k .state) at l), here d es (k .state), again es (k .tracks) ∙ t) (record {
+              state =
+                  ap (λ (t : State). record { begun = true; nodes = t .nodes; rows = t .rows; count = t .count + 1 }) (k .state)
+                  ∙ ap (λ (n : ℕ). record { begun = true; nodes = d .nodes; rows = d .rows; count = n }) (sym (length-append es (e ∷ [])));
+              tracks = track-on seen es (k .tracks) seen′ e low (subst (λ (v : ℕ). Added seen (v - 1) seen′) node-is a);
+              few = k .few;
+            })
 
 -- ---- the end
 

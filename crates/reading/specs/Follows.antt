@@ -1,10 +1,14 @@
 -- How the code's state stands to a reading's progress.
 use Prim.Native.Nat.{ℕ, suc, _*_, _≤_, _<_}
 use mathlib.Core.List.{List, []}
-use mathlib.Core.Bool.{Bool, true, false}
+use mathlib.Core.Bool.{Bool, true, false, cond}
 use mathlib.Core.Path.{_≡_}
 use lib.ListN.{length}
-use Rattle.meaning.specs.Files.{Progress, awaiting, begun, Next, stop, go, isGiven}
+use lib.Dec.{leb}
+use Rattle.meaning.specs.Limits.{dataMiscounted}
+use Rattle.meaning.specs.Checks.{orElse}
+use Rattle.meaning.specs.declared.Limits.{Limits}
+use Rattle.meaning.specs.Files.{Progress, awaiting, begun, Next, stop, go, entryFault, isGiven}
 use Rattle.meaning.specs.declared.Entry.{Entry}
 use Rattle.meaning.specs.declared.Entry.the-variants.{Arc, Point, Site}
 use Rattle.reading.specs.Marks.{isMarked}
@@ -26,6 +30,14 @@ abbrev pub onlyOnce : Entry → Bool → Bool
 onlyOnce (Arc u v w) given = false
 onlyOnce (Point v x y) given = given
 onlyOnce (Site v) given = given
+
+-- 0, or 7 where the entries are as many as the count
+abbrev pub tooMany : ℕ → ℕ → ℕ
+tooMany rows count = cond (leb rows count) dataMiscounted 0
+
+-- 7, then 5 and 6
+abbrev pub dataFault : Limits → State → Entry → ℕ
+dataFault L s e = orElse (tooMany (s .rows) (s .count)) (entryFault L (s .nodes) e)
 
 -- the marks are those of the nodes given
 abbrev pub Tracks : List ℕ → List Entry → Type 0

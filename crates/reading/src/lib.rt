@@ -7,8 +7,9 @@ ghost use lib.IntN.{natAbs};
 ghost use Rattle.meaning.specs.Limits.{base};
 ghost use Rattle.meaning.specs.Files.{Progress, within as isWithin, isCoordinate, mostRows, agrees as isAgreed, countsFault, entryFault, nodeOf, step, readFrom, handedIn, reading, answered, finish};
 ghost use Rattle.meaning.specs.Text.{lines};
+ghost use Rattle.meaning.specs.Checks.{orElse};
 ghost use Rattle.reading.specs.Said.{saidAt};
-ghost use Rattle.reading.specs.Follows.{stateOf, onlyOnce, Keeps, Follows};
+ghost use Rattle.reading.specs.Follows.{stateOf, onlyOnce, tooMany, dataFault, Keeps, Follows};
 use meaning::COUNT_OUTSIDE;
 use meaning::Counts;
 use meaning::DATA_MISCOUNTED;
@@ -194,6 +195,27 @@ fn begun(rules: Rules, st: State, c: Counts) -> Step
     }
 }
 
+// The first of two faults.
+pub fn or_else(fault: usize, later: usize) -> usize
+    ensures { λ r. ⌜ r ≡ orElse fault later ⌝ }
+{
+    if fault == 0 { later } else { fault }
+}
+
+fn too_many(rows: usize, count: usize) -> usize
+    ensures { λ r. ⌜ r ≡ tooMany rows count ⌝ }
+{
+    if rows <= count { DATA_MISCOUNTED } else { 0 }
+}
+
+// Of a data line behind the problem line: 7, then 5 and 6.
+fn data_fault(limits: Limits, st: State, e: Entry) -> usize
+    ensures { λ r. ⌜ r ≡ dataFault limits st e ⌝ }
+{
+    let seventh = too_many(st.rows, st.count);
+    or_else(seventh, entry_fault(limits, st.nodes, e))
+}
+
 // A data line. Its node is marked in any text; an arc may repeat one.
 fn added(rules: Rules, st: State, seen: &mut [u32], e: Entry) -> Step
     requires { ⌜ (st .nodes ≤ rules .limits .nodes) × (rules .limits .nodes ≤ 32 * length (now seen)) ⌝ }
@@ -202,12 +224,8 @@ fn added(rules: Rules, st: State, seen: &mut [u32], e: Entry) -> Step
     if !st.begun {
         return Step::Stop(PROBLEM_MISPLACED);
     }
-    let count = st.count;
-    if st.rows <= count {
-        return Step::Stop(DATA_MISCOUNTED);
-    }
     let limits = rules.limits;
-    let fault = entry_fault(limits, st.nodes, e);
+    let fault = data_fault(limits, st, e);
     if fault != 0 {
         return Step::Stop(fault);
     }
@@ -220,7 +238,7 @@ fn added(rules: Rules, st: State, seen: &mut [u32], e: Entry) -> Step
         begun: true,
         nodes: st.nodes,
         rows: st.rows,
-        count: count + 1,
+        count: st.count + 1,
     })
 }
 
