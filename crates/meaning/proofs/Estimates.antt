@@ -10,6 +10,7 @@ use Rattle.meaning.specs.Region.{Region, ArcOf, isSite}
 use Rattle.meaning.specs.Scan.{first}
 use Rattle.meaning.specs.Straight.{gap, root, rootTo, squares, straight}
 use Rattle.meaning.specs.Taking.{leastAt, toSites}
+use Rattle.meaning.proofs.Arcs.{arc-tail, arc-head}
 use Rattle.meaning.proofs.Relaxing.{Estimate}
 use Rattle.meaning.proofs.Roots.{root-floor, floor-triangle}
 use Rattle.meaning.proofs.Scans.{IsFirst, first-is, any-is}
@@ -71,7 +72,7 @@ Long R x y = (i : ℕ) → i < R .m → squares x y (R .tail i) (R .head i) ≤ 
 
 module _ (R : Region) (x y : ℕ → ℤ) (long : Long R x y) where
   arc-long : (u v w : ℕ) → ArcOf R u v w → squares x y u v ≤ w * w
-  arc-long u v w a = rw (← (a .2), ← (a .3), ← (a .4)) (long (a .0) (a .1))
+  arc-long u v w a = rw (← (arc-tail a), ← (arc-head a), ← (a .weighs)) (long (a .index) (a .below))
 
   pub straight-measure : Measure R (straight x y)
   unfolding straight root rootTo

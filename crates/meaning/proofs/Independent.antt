@@ -9,6 +9,7 @@ use Rattle.meaning.specs.declared.Answer.{Answer}
 use Rattle.meaning.specs.Region.{Tables, Rooms, regionOf, ArcOf, LeastArc, isSite}
 use Rattle.meaning.specs.Listing.{Stop, Listing}
 use Rattle.meaning.specs.Search.{filled, Found}
+use Rattle.meaning.proofs.Arcs.{arc-tail, arc-head, arc-of}
 use Rattle.meaning.proofs.Scans.{any-of, any-is}
 use Rattle.meaning.proofs.Listings.{listing-unique}
 use Rattle.meaning.proofs.Alike.{same-alike, least-same, listing-alike}
@@ -46,9 +47,9 @@ siteAt t j v _ _ = getD (t .sites) j 0 ≡ v
 
 arcs-stand : (t t′ : Tables) → Stands (t .m) (t′ .m) (arcAt t) (arcAt t′) → (u v w : ℕ) → ArcOf (regionOf t) u v w → ArcOf (regionOf t′) u v w
 arcs-stand t t′ s u v w a =
-    let i = a .0 in
-    let e = s .same i (getD (t .tails) i 0) (getD (t .heads) i 0) (getD (t .weights) i 0) (a .1) (refl, refl, refl) in
-    (s .place i, s .below i (a .1), ap (λ (x : ℕ). x - 1) (e .0) ∙ a .2, ap (λ (x : ℕ). x - 1) (e .1) ∙ a .3, e .2 ∙ a .4)
+    let i = a .index in
+    let e = s .same i (getD (t .tails) i 0) (getD (t .heads) i 0) (getD (t .weights) i 0) (a .below) (refl, refl, refl) in
+    arc-of (s .place i) (s .below i (a .below)) (ap (λ (x : ℕ). x - 1) (e .0) ∙ arc-tail a) (ap (λ (x : ℕ). x - 1) (e .1) ∙ arc-head a) (e .2 ∙ a .weighs)
 
 sites-stand : (t t′ : Tables) → Stands (t .s) (t′ .s) (siteAt t) (siteAt t′) → (v : ℕ) → T (isSite (regionOf t) v) → T (isSite (regionOf t′) v)
 unfolding isSite

@@ -16,6 +16,8 @@ pub mod Texts
 -- what a best-first search with a consistent estimate may conclude, over any arcs
 pub mod Exits
 pub mod Orders
+-- the arcs of a region
+pub mod Arcs
 -- the taking rule: following arcs, every state, the sites taken, the routes, how far it goes
 pub mod Relaxing
 pub mod States

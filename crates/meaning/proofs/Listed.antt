@@ -135,7 +135,7 @@ taken-else s u v n = go (eqb u v) (λ t. n (eqb→eq u v t))
 
 module _ {R : Region} {est : (ℕ → Bool) → ℕ → ℕ} {q : ℕ} (G : Setting R est q) (k : ℕ) where
   pub long : (u v w : ℕ) → ArcOf R u v w → 1 ≤ w
-  long u v w a = let p = G .positive (a .0) (a .1) in let e = a .4 in omega arith
+  long u v w a = let p = G .positive (a .index) (a .below) in let e = a .weighs in omega arith
 
   pub aims : (s : State) (v : ℕ) → T (isSite R v) → T (not (taken s v)) → T (aimed R s v)
   unfolding aimed

@@ -1,35 +1,31 @@
 -- 01's walk: the length is the sum of the least weights among the parallel arcs used. Shortest lengths are the same as over all arcs.
 use mathlib.Core.Path.{refl}
 use mathlib.Core.Logic.{_↔_}
-use mathlib.Core.Bool.{Bool, _&&_}
 use mathlib.Core.Option.{Option, none, some}
 use Prim.Native.Nat.{ℕ, _+_, _≤_}
 use native.Mathlib.Omega.{arith}
-use lib.Dec.{T, eqb, eqb→eq, eqb-refl}
-use Rattle.meaning.specs.Region.{Region, ArcOf, LeastArc}
+use Rattle.meaning.specs.Region.{Region, joins, ArcOf, LeastArc}
 use Rattle.meaning.specs.Scan.{first}
 use Rattle.meaning.specs.Walk.{Walk, here, step, Shortest}
-use Rattle.meaning.proofs.Bools.{and-both, and-make}
 use Rattle.meaning.proofs.Exits.{walk-to}
 use Rattle.meaning.proofs.Scans.{IsFirst, first-is}
 
 module _ (R : Region) where
-  abbrev joins : ℕ → ℕ → ℕ → Bool
-  joins u v i = eqb (R .tail i) u && eqb (R .head i) v
-
-  joins-of : (u v w : ℕ) (a : ArcOf R u v w) → T (joins u v (a .0))
-  joins-of u v w a = and-make (eqb (R .tail (a .0)) u) (eqb (R .head (a .0)) v) (rw (a .2) (eqb-refl u)) (rw (a .3) (eqb-refl v))
-
   least-arc : (u v w : ℕ) → ArcOf R u v w → (x : ℕ) × LeastArc R u v x × (x ≤ w)
-  least-arc u v w a = go (first (joins u v) (R .weight) (R .m)) (first-is (joins u v) (R .weight) (R .m))
+  least-arc u v w a = go (first (joins R u v) (R .weight) (R .m)) (first-is (joins R u v) (R .weight) (R .m))
     where
-      go : (o : Option ℕ) → IsFirst (joins u v) (R .weight) (R .m) o → (x : ℕ) × LeastArc R u v x × (x ≤ w)
-      go none F = absurd (F (a .0) (a .1) (joins-of u v w a))
+      go : (o : Option ℕ) → IsFirst (joins R u v) (R .weight) (R .m) o → (x : ℕ) × LeastArc R u v x × (x ≤ w)
+      go none F = absurd (F (a .index) (a .below) (a .ends))
       go (some i) F =
-          let p = and-both (eqb (R .tail i) u) (eqb (R .head i) v) (F .holds) in
-          let l = F .least (a .0) (a .1) (joins-of u v w a) in
-          let e = a .4 in
-          (R .weight i, record { arc = (i, F .below, eqb→eq (R .tail i) u (p .0), eqb→eq (R .head i) v (p .1), refl); least = λ x b. let m = F .least (b .0) (b .1) (joins-of u v x b) in let c = b .4 in omega arith }, omega arith)
+          let l = F .least (a .index) (a .below) (a .ends) in
+          let e = a .weighs in (
+            R .weight i,
+            record {
+              arc = record { index = i; below = F .below; ends = F .holds; weighs = refl };
+              least = λ x b. let m = F .least (b .index) (b .below) (b .ends) in let c = b .weighs in omega arith;
+            },
+            omega arith,
+          )
 
   pub any-walk : {q v d : ℕ} → Walk (LeastArc R) q v d → Walk (ArcOf R) q v d
   any-walk here = here

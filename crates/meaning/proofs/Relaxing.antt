@@ -12,6 +12,7 @@ use lib.Seq.{getD-set-same, getD-set-other}
 use Rattle.meaning.specs.Region.{Region, ArcOf, isSite}
 use Rattle.meaning.specs.Taking.{State, aimed, taken, lower, looks, relax, relaxTo}
 use Rattle.meaning.specs.Walk.{Walk, step}
+use Rattle.meaning.proofs.Arcs.{arc-of}
 use Rattle.meaning.proofs.Bools.{T-true, T-false, decT, and-both, and-make}
 use Rattle.meaning.proofs.Exits.{Consistent}
 
@@ -177,4 +178,4 @@ module _ (R : Region) (ok : Valid R) (tk : ℕ → Bool) (b₀ : List ℕ) (u d 
 
   pub relaxTo-sound : {q : ℕ} → ((v e : ℕ) → getD b₀ v 0 ≡ suc e → Walk (ArcOf R) q v e) → Walk (ArcOf R) q u d → (i : ℕ) → i ≤ R .m
       → (v e : ℕ) → getD (relaxTo R tk b₀ u d i) v 0 ≡ suc e → Walk (ArcOf R) q v e
-  relaxTo-sound {q} k p = relaxTo-all (Walk (ArcOf R) q) k (λ i l e. step p (i, l, e, refl, refl))
+  relaxTo-sound {q} k p = relaxTo-all (Walk (ArcOf R) q) k (λ i l e. step p (arc-of i l e refl refl))

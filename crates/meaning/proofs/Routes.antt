@@ -13,6 +13,7 @@ use Rattle.meaning.specs.Route.{Gives, Lowest, RouteTo, at-query, from}
 use Rattle.meaning.specs.Scan.{any}
 use Rattle.meaning.specs.Taking.{State, memb, taken, lenAt}
 use Rattle.meaning.specs.Walk.{Walk, here, step, Shortest}
+use Rattle.meaning.proofs.Arcs.{arc-tail, arc-head, arc-of}
 use Rattle.meaning.proofs.Bools.{and-both, and-make}
 use Rattle.meaning.proofs.Exits.{one, join, shortest-unique, shortest-front}
 use Rattle.meaning.proofs.Listed.{Listed, memb-snoc, asc-snoc}
@@ -122,8 +123,8 @@ module _ (R : Region) (q : ℕ) (s : State) (t : ℕ) (Y : Ends R q s t) where
       let e : W .len ≡ g .len + g .weight = shortest-unique (W .short) (g .whole) in
       let l₁ = at-len W in
       let l₂ : lenAt (s .best) x ≡ g .len = at-len X in
-      let l₃ = a .4 in
-      and-make (taken s x) (any (arcGives R (s .best) x v) (R .m)) (X .got) (any-of (arcGives R (s .best) x v) (R .m) (a .0) (a .1) (gives-at R (s .best) x v (a .0) (a .2) (a .3) (omega arith)))
+      let l₃ = a .weighs in
+      and-make (taken s x) (any (arcGives R (s .best) x v) (R .m)) (X .got) (any-of (arcGives R (s .best) x v) (R .m) (a .index) (a .below) (gives-at R (s .best) x v (a .index) (arc-tail a) (arc-head a) (omega arith)))
 
   gives-of : {v : ℕ} → OnWay v → (u : ℕ) → T (ok v u) → Gives (ArcOf R) q u v
   gives-of {v} W u o =
@@ -138,7 +139,7 @@ module _ (R : Region) (q : ℕ) (s : State) (t : ℕ) (Y : Ends R q s t) where
         len = m .0;
         weight = R .weight (r .0);
         short = m .2;
-        arc = (r .0, r .1, g .0, g .1, refl);
+        arc = arc-of (r .0) (r .1) (g .0) (g .1) refl;
         whole = subst (λ (z : ℕ). Shortest (ArcOf R) q v z) (omega arith) (W .short);
       }
 
@@ -165,8 +166,8 @@ module _ (R : Region) (q : ℕ) (s : State) (t : ℕ) (Y : Ends R q s t) where
     not-query {u} {v} g e =
         let l = g .whole .least 0 (rw e here) in
         let a = g .arc in
-        let p = pos (a .0) (a .1) in
-        let w = a .4 in
+        let p = pos (a .index) (a .below) in
+        let w = a .weighs in
         omega arith
 
     back-is : (f v : ℕ) → OnWay v → lenAt (s .best) v < f → (acc : List ℕ) → (p : List ℕ) × RouteTo (ArcOf R) q v p × (back R s f (some v) acc ≡ p ++ acc)
@@ -188,8 +189,8 @@ module _ (R : Region) (q : ℕ) (s : State) (t : ℕ) (Y : Ends R q s t) where
             let l₂ : lenAt (s .best) u ≡ g .len = at-len X in
             let e : W .len ≡ g .len + g .weight = shortest-unique (W .short) (g .whole) in
             let a = g .arc in
-            let ps = pos (a .0) (a .1) in
-            let aw = a .4 in
+            let ps = pos (a .index) (a .below) in
+            let aw = a .weighs in
             let r = ih u X (omega arith) in
             (r .0 ++ (v ∷ []), from (not-query g) low (r .1), r .2 ∙ sym (append-assoc (r .0) (v ∷ []) acc))
 
@@ -223,7 +224,7 @@ module _ {R : Region} {est : (ℕ → Bool) → ℕ → ℕ} {q : ℕ} (G : Sett
       sum = shortest-unique (l .gives .whole) s
 
       head : v < R .n
-      head = let a = l .gives .arc in let h = G .valid .heads (a .0) (a .1) in let e = a .3 in omega arith
+      head = let a = l .gives .arc in let h = G .valid .heads (a .index) (a .below) in let e = arc-head a in omega arith
 
       go : T (memb x p) ⊎ (v ≡ x) → (T (memb x p) → (e : ℕ) × Shortest (ArcOf R) q x e × (e ≤ l .gives .len) × (x < R .n)) → (e : ℕ) × Shortest (ArcOf R) q x e × (e ≤ d) × (x < R .n)
       go (inl z) ih = let k = ih z in let y = k .2 in (k .0, k .1, omega (arith, sum), k .3)
@@ -238,8 +239,8 @@ module _ {R : Region} {est : (ℕ → Bool) → ℕ → ℕ} {q : ℕ} (G : Sett
       near y k =
           let g = l .gives in
           let a = g .arc in
-          let w = G .positive (a .0) (a .1) in
-          let z = a .4 in
+          let w = G .positive (a .index) (a .below) in
+          let z = a .weighs in
           let j = k .2 in
           (k .0, g .len + g .weight, k .1, g .whole, omega arith)
 

@@ -13,6 +13,7 @@ use lib.Seq.{getD-set-same, getD-set-other}
 use Rattle.meaning.specs.Region.{Region, ArcOf, isSite}
 use Rattle.meaning.specs.Taking.{key, State, memb, taken, lenAt, keyIn, isOpen, aimed, mark, relaxTo, take1, takeAt, start, choose, full, next, after}
 use Rattle.meaning.specs.Walk.{Walk, here, step, Shortest}
+use Rattle.meaning.proofs.Arcs.{arc-tail, arc-head}
 use Rattle.meaning.proofs.Bools.{decT, and-both, and-make, or-cases, or-left, or-right}
 use Rattle.meaning.proofs.Exits.{Known, Picked, picked-shortest}
 use Rattle.meaning.proofs.Relaxing.{Setting, Valid, aimed-site, Within, within-has, relaxTo-length, relaxTo-keeps, relaxTo-taken, relaxTo-hits, relaxTo-sound}
@@ -83,7 +84,7 @@ module _ (R : Region) (ok : Valid R) (q : ℕ) (s : State) (I : Inv R q s) (u d 
           (k .0, k .1, omega arith)
       new c (inr z) =
           let de : d ≡ e = same s u d e hd (rw c be) in
-          within-has _ (e + w) (rw (← (r .3), ← (r .4), ← de) (relaxTo-hits R ok (taken (mark s u)) (s .best) u d (I .size) (R .m) (omega arith) (r .0) (r .1) (r .2 ∙ sym c) (rw (r .3) z)))
+          within-has _ (e + w) (rw (← (arc-head r), ← (r .weighs), ← de) (relaxTo-hits R ok (taken (mark s u)) (s .best) u d (I .size) (R .m) (omega arith) (r .index) (r .below) (arc-tail r ∙ sym c) (rw (arc-head r) z)))
 
       go : (u ≡ x) ⊎ T (taken s x) → (f : ℕ) × Has aft v f × (f ≤ e + w)
       go (inl c) = new c (decT (taken (mark s u) v))

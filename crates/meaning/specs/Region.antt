@@ -1,9 +1,9 @@
 -- What a search is lent: the tables of a region and the rooms for its answer; and the region that the tables describe.
 use mathlib.Core.Path.{_≡_}
-use mathlib.Core.Bool.{Bool}
+use mathlib.Core.Bool.{Bool, _&&_}
 use mathlib.Core.List.{List}
 use Prim.Native.Nat.{ℕ, _-_, _≤_, _<_}
-use lib.Dec.{eqb}
+use lib.Dec.{T, eqb}
 use lib.IntN.{ℤ, pos}
 use lib.ListN.{getD}
 use Rattle.meaning.specs.Scan.{any}
@@ -58,9 +58,16 @@ xAt t v = getD (t .xs) v (pos 0)
 abbrev pub yAt : Tables → ℕ → ℤ
 yAt t v = getD (t .ys) v (pos 0)
 
--- "Arcs are one-way": an arc leads from u to v and weighs w
-abbrev pub ArcOf : Region → ℕ → ℕ → ℕ → Type 0
-ArcOf R u v w = (i : ℕ) × (i < R .m) × (R .tail i ≡ u) × (R .head i ≡ v) × (R .weight i ≡ w)
+-- "Arcs are one-way": whether arc i leads from u to v
+abbrev pub joins : Region → ℕ → ℕ → ℕ → Bool
+joins R u v i = eqb (R .tail i) u && eqb (R .head i) v
+
+-- an arc leads from u to v and weighs w
+pub record ArcOf (R : Region) (u v w : ℕ) : Type 0 where
+  pub index : ℕ
+  pub below : index < R .m
+  pub ends : T (joins R u v index)
+  pub weighs : R .weight index ≡ w
 
 -- "the least weights among the parallel arcs"
 pub record LeastArc (R : Region) (u v w : ℕ) : Type 0 where
