@@ -1,6 +1,6 @@
 #!/usr/bin/env python3
-"""Makes crates/cases/stdin and crates/cases/stdout: texts for the three readers, and what a second, independent
-reading of the paper says of each. The gate runs the library on the first and compares what it prints with the second.
+"""Makes crates/cases/stdin and crates/cases/stdout: texts for the three readers, and what a second program, which
+shares no code with the library, says of each. The gate runs the library on the first and compares what it prints with the second.
 
 Run at the repository's root:  python3 tests/reader_cases.py
 A case is a line `KIND NODES ROOM LENGTH` (a letter g, c or s, then three numbers of five digits), LENGTH bytes of text, and LF.
