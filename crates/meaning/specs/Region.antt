@@ -28,6 +28,14 @@ pub record Rooms : Type 0 where
   pub ends : List ℕ
   pub routes : List ℕ
 
+-- as a contract has them: the lent tables' entries and counts
+abbrev pub tables : List ℕ → List ℕ → List ℕ → List ℤ → List ℤ → List ℕ → ℕ → ℕ → ℕ → Tables
+tables tails heads weights xs ys sites n m s = record { tails = tails; heads = heads; weights = weights; xs = xs; ys = ys; sites = sites; n = n; m = m; s = s }
+
+-- and the lent rooms' entries
+abbrev pub rooms : List ℕ → List ℕ → List ℕ → List ℕ → List ℕ → Rooms
+rooms work sites lengths ends routes = record { work = work; sites = sites; lengths = lengths; ends = ends; routes = routes }
+
 -- A region: n nodes, m arcs, s sites. Nodes are 0 to n-1 in all that follows: a node's number in a table is one more.
 pub record Region : Type 0 where
   pub n : ℕ

@@ -28,7 +28,7 @@ pub fn base() -> Limits
     }
 }
 
-// The refusals of a reader, by the paper's numbers.
+// The refusals, by the paper's numbers.
 pub const TEXT_TOO_LONG: usize = 1;
 
 pub const NOT_PERMITTED: usize = 2;
@@ -46,6 +46,17 @@ pub const DATA_MISCOUNTED: usize = 7;
 pub const GIVEN_TWICE: usize = 8;
 
 pub const TABLE_SHORT: usize = 9;
+
+pub const ARC_SHORT: usize = 10;
+
+pub const QUERY_OUTSIDE: usize = 11;
+
+pub const K_OUTSIDE: usize = 12;
+
+pub const ROOM_SHORT: usize = 13;
+
+// The panel call's k.
+pub const PANEL_K: usize = 5;
 
 // Which of the three texts.
 pub enum Kind {

@@ -1,0 +1,4 @@
+-- what the memory holds
+pub mod Memory
+-- the estimate, from it
+pub mod Aim

@@ -1,0 +1,230 @@
+// The search, the panel call and the stretch of a listed route.
+ghost use mathlib.Core.Path.{_≡_};
+ghost use Prim.Native.Nat.{_*_, _≤_};
+ghost use lib.ListN.{length};
+ghost use Rattle.meaning.specs.Limits.{base};
+ghost use Rattle.meaning.specs.Region.{tables, rooms};
+ghost use Rattle.meaning.specs.Search.{Searched, Panelled, stretch, beginOf, between};
+ghost use Rattle.search.specs.Run.{Passed, Ran};
+use meaning::Answer;
+use meaning::PANEL_K;
+use meaning::Verdict;
+use memory::Next;
+
+// How many sites are listed, and how many nodes were taken.
+struct Tally {
+    sites: usize,
+    taken: usize,
+}
+
+// A taken site goes into the list.
+fn list(
+    work: &[u32],
+    n: usize,
+    v: usize,
+    site: bool,
+    listed: &mut [u16],
+    lengths: &mut [u32],
+    count: usize,
+) -> usize {
+    if !site {
+        return count;
+    }
+    listed[count] = (v + 1) as u16;
+    let road = memory::road_at(work, n, v);
+    lengths[count] = road.0;
+    count + 1
+}
+
+// The taking rule, from its start to its stop. The list is filled as sites are taken.
+fn run(
+    tails: &[u16],
+    heads: &[u16],
+    weights: &[u32],
+    xs: &[i32],
+    ys: &[i32],
+    sites: &[u16],
+    n: usize,
+    m: usize,
+    s: usize,
+    query: usize,
+    k: usize,
+    work: &mut [u32],
+    listed: &mut [u16],
+    lengths: &mut [u32],
+) -> Tally
+    requires { ⌜ Passed (tables (now tails) (now heads) (now weights) (now xs) (now ys) (now sites) n m s) query k ⌝ }
+    requires { ⌜ (4 * n ≤ length (now work)) × ((k ≤ length (now listed)) × (k ≤ length (now lengths))) ⌝ }
+    ensures { λ r. ⌜ Ran (tables (now (tails .entry)) (now (heads .entry)) (now (weights .entry)) (now (xs .entry)) (now (ys .entry)) (now (sites .entry)) n m s) query k n
+        (now (work .entry)) (now (listed .entry)) (now (lengths .entry)) (now (work .exit)) (now (listed .exit)) (now (lengths .exit)) (r .sites) (r .taken) ⌝ }
+{
+    taking::start(xs, ys, sites, n, s, query - 1, work);
+    let mut count = 0;
+    let mut taken = 0;
+    while taken < n {
+        if k <= count {
+            break;
+        }
+        if s <= count {
+            break;
+        }
+        let Next::Node(u) = memory::least_open(work, n) else {
+            break;
+        };
+        let site = taking::take(tails, heads, weights, xs, ys, sites, n, m, s, u, work);
+        count = list(work, n, u, site, listed, lengths, count);
+        taken += 1;
+    }
+    Tally {
+        sites: count,
+        taken,
+    }
+}
+
+// The k network-nearest sites from the query node, with lengths and routes.
+pub fn search(
+    tails: &[u16],
+    heads: &[u16],
+    weights: &[u32],
+    xs: &[i32],
+    ys: &[i32],
+    sites: &[u16],
+    n: usize,
+    m: usize,
+    s: usize,
+    query: usize,
+    k: usize,
+    work: &mut [u32],
+    listed: &mut [u16],
+    lengths: &mut [u32],
+    ends: &mut [u16],
+    routes: &mut [u16],
+) -> Answer
+    ensures { λ r. ⌜ Searched base (tables (now (tails .entry)) (now (heads .entry)) (now (weights .entry)) (now (xs .entry)) (now (ys .entry)) (now (sites .entry)) n m s) query k
+        (rooms (now (work .entry)) (now (listed .entry)) (now (lengths .entry)) (now (ends .entry)) (now (routes .entry)))
+        (rooms (now (work .exit)) (now (listed .exit)) (now (lengths .exit)) (now (ends .exit)) (now (routes .exit))) r ⌝ }
+{
+    let verdict = inspect::inspect(
+        tails,
+        heads,
+        weights,
+        xs,
+        ys,
+        sites,
+        n,
+        m,
+        s,
+        query,
+        k,
+        work,
+        listed,
+        lengths,
+        ends,
+        routes,
+    );
+    match verdict {
+        Verdict::Faulty { number, place } => Answer::Denied { number, place },
+        Verdict::Fine => {
+            let tally = run(
+                tails,
+                heads,
+                weights,
+                xs,
+                ys,
+                sites,
+                n,
+                m,
+                s,
+                query,
+                k,
+                work,
+                listed,
+                lengths,
+            );
+            routes::write_routes(work, n, listed, tally.sites, ends, routes);
+            memory::clear(work, n);
+            Answer::Listed {
+                sites: tally.sites,
+                taken: tally.taken,
+            }
+        }
+    }
+}
+
+// The panel call: k is 5.
+pub fn panel(
+    tails: &[u16],
+    heads: &[u16],
+    weights: &[u32],
+    xs: &[i32],
+    ys: &[i32],
+    sites: &[u16],
+    n: usize,
+    m: usize,
+    s: usize,
+    query: usize,
+    work: &mut [u32],
+    listed: &mut [u16],
+    lengths: &mut [u32],
+    ends: &mut [u16],
+    routes: &mut [u16],
+) -> Answer
+    ensures { λ r. ⌜ Panelled base (tables (now (tails .entry)) (now (heads .entry)) (now (weights .entry)) (now (xs .entry)) (now (ys .entry)) (now (sites .entry)) n m s) query
+        (rooms (now (work .entry)) (now (listed .entry)) (now (lengths .entry)) (now (ends .entry)) (now (routes .entry)))
+        (rooms (now (work .exit)) (now (listed .exit)) (now (lengths .exit)) (now (ends .exit)) (now (routes .exit))) r ⌝ }
+{
+    search(
+        tails,
+        heads,
+        weights,
+        xs,
+        ys,
+        sites,
+        n,
+        m,
+        s,
+        query,
+        PANEL_K,
+        work,
+        listed,
+        lengths,
+        ends,
+        routes,
+    )
+}
+
+// Entries a to e of the lent routes.
+fn part<'a>(routes: &'a [u16], a: usize, e: usize) -> &'a [u16]
+    ensures { λ r. ⌜ now r ≡ between (now (routes .entry)) a e ⌝ }
+{
+    if e < a {
+        return &routes[0..0];
+    }
+    if routes.len() < e {
+        return &routes[0..0];
+    }
+    &routes[a..e]
+}
+
+// Where the route of a rank begins: at the end of the one before.
+fn begin(ends: &[u16], rank: usize) -> usize {
+    if 1 < rank {
+        return ends[rank - 2] as usize;
+    }
+    0
+}
+
+// The route of a rank: the very stretch of the lent buffer where it was written.
+pub fn route<'a>(routes: &'a [u16], ends: &[u16], rank: usize) -> &'a [u16]
+    ensures { λ r. ⌜ now r ≡ stretch (now (routes .entry)) (now (ends .entry)) rank ⌝ }
+{
+    if rank < 1 {
+        return &routes[0..0];
+    }
+    if ends.len() < rank {
+        return &routes[0..0];
+    }
+    let a = begin(ends, rank);
+    let e = ends[rank - 1] as usize;
+    part(routes, a, e)
+}
