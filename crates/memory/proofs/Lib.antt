@@ -1,0 +1,2 @@
+-- what the memory holds, read from its entries
+pub mod Holds
