@@ -2,3 +2,5 @@
 pub mod Holds
 -- the estimate is the taking rule's
 pub mod Lines
+-- what it holds after a write
+pub mod Writes
