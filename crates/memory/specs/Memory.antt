@@ -41,6 +41,8 @@ nextOf (some v) = Node v
 -- before each node, and `rest` is what follows the four quarters.
 pub record Holds (n : ℕ) (site : ℕ → Bool) (line : ℕ → ℕ) (s : State) (from rest w : List ℕ) : Type 0 where
   pub room : 4 * n ≤ length w
+  pub size : length (s .best) ≡ n
+  pub leads : length from ≡ n
   pub lens : (v : ℕ) → v < n → getD w v 0 ≡ getD (s .best) v 0
   pub rivals : (v : ℕ) → v < n → getD w (n + v) 0 ≡ cond (isOpen s v) (rivalOf (line v) (site v)) 0
   pub before : (v : ℕ) → v < n → getD w (n + n + v) 0 ≡ getD from v 0
