@@ -28,57 +28,55 @@ module _ (ok : ℕ → Bool) (j : ℕ) where
   unfolding any
   any-none h o = rw (add-one, h, o)
 
--- one more site: it is taken, or the first, or closer, or not closer
-module _ (square best : ℕ) where
-  pub closer-taken : closerOf true square best ≡ best
-  unfolding closerOf
-  closer-taken = refl
+-- the least so far, and one more site: it is taken, or the first, or closer, or not closer
+module _ (xs ys : List ℤ) (sites : List ℕ) (n : ℕ) (w : List ℕ) (v j best : ℕ) (sofar : best ≡ leastTo xs ys sites n w v j) where
+  pub least-taken : isTaken n w (getD sites j 0 - 1) ≡ true → best ≡ leastTo xs ys sites n w v (j + 1)
+  unfolding leastTo closerOf
+  least-taken t = rw (add-one, t) sofar
 
-  pub closer-first : best ≡ 0 → closerOf false square best ≡ suc square
-  unfolding closerOf
-  closer-first e = rw (eq-eqb best 0 e)
+  module _ (square : ℕ) (is : square ≡ squares (entry xs) (entry ys) v (getD sites j 0 - 1)) (t : isTaken n w (getD sites j 0 - 1) ≡ false) where
+    pub least-first : best ≡ 0 → square + 1 ≡ leastTo xs ys sites n w v (j + 1)
+    unfolding leastTo closerOf
+    least-first e = rw (add-one square, add-one j, t, ← is, ← sofar, eq-eqb best 0 e)
 
-  pub closer-less : (best ≡ 0 → ⊥) → suc square < best → closerOf false square best ≡ suc square
-  unfolding closerOf
-  closer-less z l = rw (ne-eqb best 0 z, lt-ltb (suc square) best l)
+    pub least-closer : (best ≡ 0 → ⊥) → square + 1 < best → square + 1 ≡ leastTo xs ys sites n w v (j + 1)
+    unfolding leastTo closerOf
+    least-closer z l = rw (add-one square, add-one j, t, ← is, ← sofar, ne-eqb best 0 z, lt-ltb (suc square) best (omega arith))
 
-  pub closer-kept : (best ≡ 0 → ⊥) → best ≤ suc square → closerOf false square best ≡ best
-  unfolding closerOf
-  closer-kept z l = rw (ne-eqb best 0 z, le-ltb (suc square) best l)
+    pub least-kept : (best ≡ 0 → ⊥) → best ≤ square + 1 → best ≡ leastTo xs ys sites n w v (j + 1)
+    unfolding leastTo closerOf
+    least-kept z l = rw (add-one j, t, ← is, ← sofar, ne-eqb best 0 z, le-ltb (suc square) best (omega arith))
 
 -- nothing is closer than no distance
 closer-none : (gone : Bool) (square : ℕ) → closerOf gone square 1 ≡ 1
-closer-none true square = closer-taken square 1
-closer-none false square = closer-kept square 1 (λ e. omega arith) (omega arith)
+unfolding closerOf
+closer-none true square = refl
+closer-none false square = rw (le-ltb (suc square) 1 (omega arith))
 
 closer-self : (best : ℕ) → closerOf false 0 best ≡ 1
-closer-self zero = closer-first 0 zero refl
-closer-self (suc zero) = closer-none false 0
-closer-self (suc (suc b)) = closer-less 0 (suc (suc b)) (λ e. omega arith) (omega arith)
+unfolding closerOf
+closer-self zero = refl
+closer-self (suc zero) = refl
+closer-self (suc (suc b)) = rw (ne-eqb (suc (suc b)) 0 (λ e. omega arith), lt-ltb 1 (suc (suc b)) (omega arith))
 
-module _ (xs ys : List ℤ) (sites : List ℕ) (n : ℕ) (w : List ℕ) (v : ℕ) where
-  pub least-next : (j : ℕ) (gone : Bool) (best : ℕ) → gone ≡ isTaken n w (getD sites j 0 - 1) → best ≡ leastTo xs ys sites n w v j
-      → leastTo xs ys sites n w v (j + 1) ≡ closerOf gone (squares (entry xs) (entry ys) v (getD sites j 0 - 1)) best
-  unfolding leastTo
-  least-next j gone best g b = rw (add-one, g, b)
-
+module _ (xs ys : List ℤ) (sites : List ℕ) (n : ℕ) (w : List ℕ) (v : ℕ) (t : isTaken n w v ≡ false) where
   -- a site that isn't taken is at no distance from itself
-  pub least-self : (j : ℕ) → getD sites j 0 - 1 ≡ v → isTaken n w v ≡ false → (s : ℕ) → j < s → leastTo xs ys sites n w v s ≡ 1
+  pub least-self : (j : ℕ) → getD sites j 0 - 1 ≡ v → (s : ℕ) → j < s → leastTo xs ys sites n w v s ≡ 1
   unfolding leastTo
-  least-self j e t zero l = absurd (omega arith)
-  least-self j e t (suc s) l = go (decLt j s)
+  least-self j e zero l = absurd (omega arith)
+  least-self j e (suc s) l = go (decLt j s) (least-self j e s)
     where
-      go : Dec (j < s) → leastTo xs ys sites n w v (suc s) ≡ 1
-      go (yes z) = rw (least-self j e t s z) (closer-none (isTaken n w (getD sites s 0 - 1)) (squares (entry xs) (entry ys) v (getD sites s 0 - 1)))
-      go (no z) =
+      go : Dec (j < s) → (j < s → leastTo xs ys sites n w v s ≡ 1) → leastTo xs ys sites n w v (suc s) ≡ 1
+      go (yes z) ih = rw (ih z) (closer-none (isTaken n w (getD sites s 0 - 1)) (squares (entry xs) (entry ys) v (getD sites s 0 - 1)))
+      go (no z) ih =
           let i : s ≡ j = omega arith in
           rw (i, e, t, gap-self (entry xs v), gap-self (entry ys v)) (closer-self (leastTo xs ys sites n w v j))
 
-  -- so a node with a line that isn't 0 is no site, or taken
-  pub no-site : (s : ℕ) → isTaken n w v ≡ false → (lineTo xs ys sites n s w v ≡ 0 → ⊥) → siteIn sites s v ≡ false
+  -- so a node that isn't taken, with a line that isn't 0, is no site
+  pub no-site : (s : ℕ) → (lineTo xs ys sites n s w v ≡ 0 → ⊥) → false ≡ siteIn sites s v
   unfolding lineTo root rootTo
-  no-site s t z = go (siteIn sites s v) (λ h. any-is (λ j. eqb (getD sites j 0 - 1) v) s h)
+  no-site s z = go (siteIn sites s v) (λ h. any-is (λ j. eqb (getD sites j 0 - 1) v) s h)
     where
-      go : (b : Bool) → (T b → (j : ℕ) × (j < s) × T (eqb (getD sites j 0 - 1) v)) → b ≡ false
+      go : (b : Bool) → (T b → (j : ℕ) × (j < s) × T (eqb (getD sites j 0 - 1) v)) → false ≡ b
       go false f = refl
-      go true f = let r = f tt in absurd (z (rw (least-self (r .0) (eqb→eq _ _ (r .2)) t s (r .1))))
+      go true f = let r = f tt in absurd (z (rw (least-self (r .0) (eqb→eq _ _ (r .2)) s (r .1))))
