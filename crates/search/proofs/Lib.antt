@@ -1,0 +1,2 @@
+-- the routes that the memory leads to
+mod Ways
