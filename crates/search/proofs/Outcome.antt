@@ -108,7 +108,7 @@ module _ (t : Tables) (q k : ℕ) (r : Rooms) {v : Verdict} (is : v ≡ inspect 
         let a = wide (t .n) k r (accepted .rooms) in
         let b : sites * t .n ≤ k * t .n = mul-le-mul-right (t .n) few in
         let c = few in
-        (leads-are accepted (t .n) (ran .live), (omega (arith, a .ends), omega (arith, a .routes)))
+        (leads-are accepted (t .n) ran, (omega (arith, a .ends), omega (arith, a .routes)))
 
     -- the lines that the memory leads to are the list
     lines : linesIn (t .n) w (take sites listed) ≡ list
