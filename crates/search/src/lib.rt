@@ -1,11 +1,11 @@
 // The search, the panel call and the stretch of a listed route.
 ghost use mathlib.Core.Path.{_≡_};
-ghost use Prim.Native.Nat.{_*_, _≤_};
-ghost use lib.ListN.{length};
+ghost use Prim.Native.Nat.{_-_, _*_, _≤_, _<_};
+ghost use lib.ListN.{length, getD};
 ghost use Rattle.meaning.specs.Limits.{base};
 ghost use Rattle.meaning.specs.Region.{tables, rooms};
 ghost use Rattle.meaning.specs.Search.{Searched, Panelled, stretch, beginOf, between};
-ghost use Rattle.search.specs.Run.{Passed, Ran};
+ghost use Rattle.search.specs.Run.{Passed, Put, Ran};
 use meaning::Answer;
 use meaning::PANEL_K;
 use meaning::Verdict;
@@ -26,7 +26,11 @@ fn list(
     listed: &mut [u16],
     lengths: &mut [u32],
     count: usize,
-) -> usize {
+) -> usize
+    requires { ⌜ (4 * n ≤ length (now work)) × ((v < n) × (n ≤ 1024)) ⌝ }
+    requires { ⌜ (count < length (now listed)) × (count < length (now lengths)) ⌝ }
+    ensures { λ r. ⌜ Put site v (getD (now (work .entry)) v 0 - 1) count (now (listed .entry)) (now (lengths .entry)) (now (listed .exit)) (now (lengths .exit)) r ⌝ }
+{
     if !site {
         return count;
     }
