@@ -9,9 +9,6 @@ use lib.ListN.{getD}
 use denote.Ref.{now}
 use Rattle.search.proofs.list.Statement.{statement}
 use Rattle.search.proofs.list.Tie as tie
-use Rattle.search.proofs.list.Reads as reads
-use Rattle.search.proofs.list.Lts as lts
-use Rattle.memory.proofs.road_at.Reads as road-at-reads
 
 returns : tie.Need-returns
 returns c =
