@@ -3,6 +3,7 @@ use mathlib.Core.Bool.{Bool, true, false, not, cond, _&&_}
 use mathlib.Core.List.{List, []}
 use mathlib.Core.Path.{_≡_, refl, sym, _∙_}
 use Prim.Native.Nat.{ℕ, suc, _+_, _-_, _*_, _≤_, _<_}
+use native.Mathlib.Numerals.{add-one}
 use native.Mathlib.Omega.{arith}
 use borrow.Author.Tests.{eq-eqb, ne-eqb}
 use lib.Dec.{T, eqb}
@@ -18,25 +19,24 @@ use Rattle.memory.proofs.Lines.{line-is}
 use Rattle.memory.proofs.Writes.{held-none, held-open, held-same}
 use Rattle.taking.specs.Parents.{parentAt, parentBy, parentsTo, parents1}
 use Rattle.taking.specs.Steps.{places, Live, reached, Reached, Relaxed, Closed, Took}
-use Rattle.taking.proofs.Reaching.{with-own}
+use Rattle.taking.proofs.Reaching.{unseen-is, with-own}
 
 -- ---- the start
 
-module _ (t : Tables) (q : ℕ) (w : List ℕ) (room : 4 * t .n ≤ length w) (l : q < t .n) where
-  -- in a memory of zeros no node has been taken
-  pub none-taken : isTaken (t .n) (over (replicate (4 * t .n) 0) w) q ≡ false
-  none-taken =
-      let H = held-none (t .n) (λ v. false) (λ v. 0) w room in
-      rw (eq-eqb (getD (over (replicate (4 * t .n) 0) w) q 0) 0 (H .lens q l ∙ getD-replicate (t .n) q 0 0 l))
+-- in a memory of zeros no node has been taken
+pub none-taken : (n q : ℕ) (w w₁ : List ℕ) → 4 * n ≤ length w → q < n → w₁ ≡ over (replicate (4 * n) 0) w → isTaken n w₁ q ≡ false
+none-taken n q w w₁ room l e =
+    let H = held-none n (λ v. false) (λ v. 0) w room in
+    unseen-is n q w₁ (rw e (H .lens q l ∙ getD-replicate n q 0 0 l))
 
-  pub started : Ground (t .xs) (t .ys) (t .sites) (t .n) (t .s)
-      → Live t (start (regionOf t) q) (replicate (t .n) 0) (drop (4 * t .n) w)
-      (set (set (over (replicate (4 * t .n) 0) w) q 1) (t .n + q) (rivalOf (lineTo (t .xs) (t .ys) (t .sites) (t .n) (t .s) (over (replicate (4 * t .n) 0) w) q) (siteIn (t .sites) (t .s) q)))
-  unfolding start aimed taken isSite
-  started g =
-      let line = aimOf t (aimed (regionOf t) (start (regionOf t) q)) in
-      let H = held-none (t .n) (isSite (regionOf t)) line w room in
-      rw (line-is t g H q) (held-same (held-open H q l (getD-replicate (t .n) q 0 0 l) 1 (line q) (omega arith)) line (λ v k o. with-own line q v))
+pub started : (t : Tables) (q : ℕ) (w w₁ : List ℕ) → 4 * t .n ≤ length w → q < t .n → Ground (t .xs) (t .ys) (t .sites) (t .n) (t .s) → w₁ ≡ over (replicate (4 * t .n) 0) w
+    → (r : ℕ) → r ≡ rivalOf (lineTo (t .xs) (t .ys) (t .sites) (t .n) (t .s) w₁ q) (siteIn (t .sites) (t .s) q)
+    → Live t (start (regionOf t) q) (replicate (t .n) 0) (drop (4 * t .n) w) (set (set w₁ q 1) (t .n + q) r)
+unfolding start aimed taken isSite
+started t q w w₁ room l g e r er =
+    let line = aimOf t (aimed (regionOf t) (start (regionOf t) q)) in
+    let H : Holds (t .n) (isSite (regionOf t)) line (record { best = replicate (t .n) 0; order = [] }) (replicate (t .n) 0) (drop (4 * t .n) w) w₁ = rw e (held-none (t .n) (isSite (regionOf t)) line w room) in
+    rw (er, line-is t g H q) (held-same (held-open H q l (getD-replicate (t .n) q 0 0 l) 1 (line q) (omega arith)) line (λ v k o. with-own line q v))
 
 -- ---- arcs
 
@@ -57,21 +57,43 @@ head-reached t u d i s from rest w e y = rw (eq-eqb (getD (t .tails) i 0 - 1) u 
     go true y = y
     go false y = y
 
-module _ (t : Tables) (u i : ℕ) (w w₁ : List ℕ) (r : Relaxed t u i w w₁) where
-  pub other-arc : (getD (t .tails) i 0 - 1 ≡ u → ⊥) → Relaxed t u (suc i) w w₁
-  unfolding relaxTo relax looks parentsTo parentBy
-  other-arc z s from rest H k = rw (ne-eqb (getD (t .tails) i 0 - 1) u z) (r s from rest H k)
+pub record Following (t : Tables) (u i : ℕ) (w w' : List ℕ) : Type 0 where
+  pub below : i ≤ t .m
+  pub size : length w' ≡ length w
+  pub done : Relaxed t u i w w'
 
-  pub own-arc : (w₂ : List ℕ) → u < t .n → getD (t .tails) i 0 - 1 ≡ u → Reached t u (getD (t .heads) i 0 - 1) (getD w u 0 + getD (t .weights) i 0) w₁ w₂ → Relaxed t u (suc i) w w₂
+pub follow-none : (t : Tables) (u : ℕ) (w : List ℕ) → Following t u 0 w w
+unfolding relaxTo parentsTo
+follow-none t u w = record { below = omega arith; size = refl; done = λ s from rest H k. H }
+
+module _ (t : Tables) (u i : ℕ) (w w₁ : List ℕ) (below : i < t .m) (r : Following t u i w w₁) where
+  -- arc i is another node's
+  pub follow-other : 1 ≤ getD (t .tails) i 0 → (getD (t .tails) i 0 ≡ u + 1 → ⊥) → Following t u (i + 1) w w₁
+  unfolding relaxTo relax looks parentsTo parentBy
+  follow-other l z = record {
+    below = omega arith;
+    size = r .size;
+    done = λ s from rest H k. rw (add-one i, ne-eqb (getD (t .tails) i 0 - 1) u (λ e. z (omega arith))) (r .done s from rest H k);
+  }
+
+  -- it is one of u's
+  pub follow-own : (w₂ : List ℕ) → u < t .n → getD (t .tails) i 0 ≡ u + 1 → length w₂ ≡ length w₁
+      → Reached t u (getD (t .heads) i 0 - 1) (getD w u 0 + getD (t .weights) i 0) w₁ w₂ → Following t u (i + 1) w w₂
   unfolding relaxTo parentsTo taken
-  own-arc w₂ l e x s from rest H k =
-      let p = H .seen u k in
-      let q = H .lens u l in
-      let d = lenAt (s .best) u in
-      let c : getD w u 0 + getD (t .weights) i 0 ≡ suc (d + getD (t .weights) i 0) = omega arith in
-      let s₁ : State = record { best = relaxTo (regionOf t) (taken s) (s .best) u d i; order = s .order } in
-      let from₁ = parentsTo (regionOf t) (taken s) (s .best) u d from i in
-      head-reached t u d i s₁ from₁ rest w₂ e (rw c at (x s₁ from₁ rest (omega arith) (r s from rest H k)))
+  follow-own w₂ l e size x = record { below = omega arith; size = size ∙ r .size; done = rw (add-one i) done }
+    where
+      done : Relaxed t u (suc i) w w₂
+      done s from rest H k =
+          let p = H .seen u k in
+          let q = H .lens u l in
+          let d = lenAt (s .best) u in
+          let c : getD w u 0 + getD (t .weights) i 0 ≡ suc (d + getD (t .weights) i 0) = omega arith in
+          let s₁ : State = record { best = relaxTo (regionOf t) (taken s) (s .best) u d i; order = s .order } in
+          let from₁ = parentsTo (regionOf t) (taken s) (s .best) u d from i in
+          head-reached t u d i s₁ from₁ rest w₂ (omega arith) (rw c at (x s₁ from₁ rest (omega arith) (r .done s from rest H k)))
+
+pub follow-all : (t : Tables) (u i : ℕ) (w w' : List ℕ) → t .m ≤ i → Following t u i w w' → Relaxed t u (t .m) w w'
+follow-all t u i w w' l r = let e : i ≡ t .m = omega (arith, r .below) in rw e at (r .done)
 
 -- ---- a node taken
 
@@ -79,7 +101,7 @@ module _ (t : Tables) (u i : ℕ) (w w₁ : List ℕ) (r : Relaxed t u i w w₁)
 module _ (tails heads weights : List ℕ) (xs ys : List ℤ) (sites : List ℕ) (n m s : ℕ) where
   pub live-any : (state : State) (from rest w : List ℕ) → Live (places xs ys sites n s) state from rest w ≡ Live (tables tails heads weights xs ys sites n m s) state from rest w
   unfolding isSite aimed toSites
-  pub live-any state from rest w = refl
+  live-any state from rest w = refl
 
   pub reached-any : (u h at : ℕ) (w w' : List ℕ) → Reached (places xs ys sites n s) u h at w w' → Reached (tables tails heads weights xs ys sites n m s) u h at w w'
   unfolding isSite aimed toSites

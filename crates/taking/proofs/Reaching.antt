@@ -13,7 +13,7 @@ use Rattle.meaning.specs.Region.{Tables, regionOf, isSite}
 use Rattle.meaning.specs.Taking.{State, taken, isOpen, aimed, lower}
 use Rattle.meaning.specs.Search.{aimOf}
 use Rattle.meaning.proofs.Bools.{T-false, and-both}
-use Rattle.memory.specs.Memory.{Holds, rivalOf}
+use Rattle.memory.specs.Memory.{Holds, isTaken, rivalOf}
 use Rattle.memory.specs.Aim.{Ground, siteIn, lineTo}
 use Rattle.memory.proofs.Holds.{open-is, taken-is}
 use Rattle.memory.proofs.Lines.{line-is}
@@ -113,6 +113,9 @@ longer n u h at w l z g site line s from rest p H =
 
 -- ---- with the estimates
 
+pub unseen-is : (n h : ℕ) (w : List ℕ) → getD w h 0 ≡ 0 → isTaken n w h ≡ false
+unseen-is n h w e = rw (eq-eqb (getD w h 0) 0 e)
+
 -- the estimates follow the taken nodes, and no node is taken
 pub arrived-live : (t : Tables) (u h at : ℕ) (w w' : List ℕ) → Arrived (t .n) u h at w w' → Reached t u h at w w'
 unfolding aimed taken
@@ -133,12 +136,12 @@ with-own line v x = go (eqb x v) (eqb→eq x v)
     go false e = refl
 
 pub opened : (t : Tables) (u h at : ℕ) (w : List ℕ) → Ground (t .xs) (t .ys) (t .sites) (t .n) (t .s) → h < t .n → getD w h 0 ≡ 0
-    → Reached t u h at w
-    (set (set (set w h at) (t .n + h) (rivalOf (lineTo (t .xs) (t .ys) (t .sites) (t .n) (t .s) w h) (siteIn (t .sites) (t .s) h))) (t .n + t .n + h) (u + 1))
+    → (r : ℕ) → r ≡ rivalOf (lineTo (t .xs) (t .ys) (t .sites) (t .n) (t .s) w h) (siteIn (t .sites) (t .s) h)
+    → Reached t u h at w (set (set (set w h at) (t .n + h) r) (t .n + t .n + h) (u + 1))
 unfolding aimed taken isSite
-opened t u h at w g l z s from rest p H =
+opened t u h at w g l z r er s from rest p H =
     let e : getD (s .best) h 0 ≡ 0 = sym (H .lens h l) ∙ z in
     let k = unseen-untaken H h e in
     let line = aimOf t (aimed (regionOf t) s) in
-    rw (moves s h at k (lower-takes (getD (s .best) h 0) at (λ y. omega arith)), parent-opened (taken s) u at h (s .best) from e p k, line-is t g H h, ← add-one u)
+    rw (moves s h at k (lower-takes (getD (s .best) h 0) at (λ y. omega arith)), parent-opened (taken s) u at h (s .best) from e p k, er, line-is t g H h, ← add-one u)
     (held-lead (held-same (held-open H h l e at (line h) p) line (λ v y o. with-own line h v)) h l (u + 1))
