@@ -4,3 +4,6 @@ pub mod Holds
 pub mod Lines
 -- what it holds after a write
 pub mod Writes
+-- the scans of the code: the least open node, the closest site
+mod Least
+mod Closest

@@ -55,9 +55,16 @@ module _ {n : ℕ} {site : ℕ → Bool} {line : ℕ → ℕ} {s : State} {from 
       lens x k (yes e) = rw e (getD-set-same w v a 0 (omega (arith, H .room)) ∙ sym (getD-set-same (s .best) v a 0 (omega (arith, H .size))))
       lens x k (no z) = getD-set-other w v x a 0 z ∙ H .lens x k ∙ sym (getD-set-other (s .best) v x a 0 z)
 
-      rivals : (x : ℕ) → x < n → Dec (x ≡ v) → getD (set (set w v a) (n + v) r) (n + x) 0 ≡ cond (ltb 0 (getD (set (s .best) v a) x 0) && not (memb x order)) (rivalOf (line' x) (site x)) 0
-      rivals x k (yes e) = rw (e, getD-set-same (s .best) v a 0 (omega (arith, H .size)), getD-set-same (set w v a) (n + v) r 0 (rw length-set (omega (arith, H .room)))) er
-      rivals x k (no z) = rw (getD-set-other (s .best) v x a 0 z, same x z, lines x z, getD-set-other (set w v a) (n + v) (n + x) r 0 (λ e. z (omega arith)), getD-set-other w v (n + x) a 0 (λ e. omega arith)) (H .rivals x k)
+      rivals : (x : ℕ) → x < n → Dec (x ≡ v)
+          → getD (set (set w v a) (n + v) r) (n + x) 0 ≡ cond (ltb 0 (getD (set (s .best) v a) x 0) && not (memb x order)) (rivalOf (line' x) (site x)) 0
+      rivals x k (yes e) =
+          let b = getD-set-same (s .best) v a 0 (omega (arith, H .size)) in
+          let m = getD-set-same (set w v a) (n + v) r 0 (rw length-set (omega (arith, H .room))) in
+          rw (e, b, m) er
+      rivals x k (no z) =
+          let m = getD-set-other (set w v a) (n + v) (n + x) r 0 (λ e. z (omega arith)) in
+          let o = getD-set-other w v (n + x) a 0 (λ e. omega arith) in
+          rw (getD-set-other (s .best) v x a 0 z, same x z, lines x z, m, o) (H .rivals x k)
 
       seen' : (x : ℕ) → T (memb x order) → Dec (x ≡ v) → 0 < getD (set (s .best) v a) x 0
       seen' x t (yes e) = rw (e, getD-set-same (s .best) v a 0 (omega (arith, H .size))) (seen (rw e at t))
@@ -74,14 +81,18 @@ module _ {n : ℕ} {site : ℕ → Bool} {line : ℕ → ℕ} {s : State} {from 
   pub held-close : (u : ℕ) → u < n → T (isOpen s u) → Holds n site line (mark s u) from rest (set w (n + u) 0)
   unfolding isOpen taken memb
   held-close u l t =
-      let p = ltb→lt 0 (getD (s .best) u 0) (and-both (ltb 0 (getD (s .best) u 0)) (not (memb u (s .order))) t .0) in
-      rw (same-best u, same-length u l) at (held-put u (getD (s .best) u 0) 0 l line (u ∷ s .order) (rw (lt-ltb 0 (getD (s .best) u 0) p, eq-eqb u u refl)) (λ x z. rw (ne-eqb u x (λ e. z (sym e)))) (λ x z. refl) (λ z. p))
+      let p = ltb→lt 0 (getD (s .best) u 0) (and-both (ltb 0 (getD (s .best) u 0)) (not (taken s u)) t .0) in
+      rw (same-best u, same-length u l) at
+      (held-put u (getD (s .best) u 0) 0 l line (u ∷ s .order) (rw (lt-ltb 0 (getD (s .best) u 0) p, eq-eqb u u refl))
+      (λ x z. rw (ne-eqb u x (λ e. z (sym e)))) (λ x z. refl) (λ z. p))
 
   -- the open node v has its estimate anew
   pub held-aim : (v : ℕ) → v < n → T (isOpen s v) → (e : ℕ) → Holds n site (lineWith line v e) s from rest (set w (n + v) (rivalOf e (site v)))
   unfolding isOpen taken
   held-aim v l t e =
-      rw (same-best v, same-length v l) at (held-put v (getD (s .best) v 0) (rivalOf e (site v)) l (lineWith line v e) (s .order) (rw (T-true (isOpen s v) t, eq-eqb v v refl)) (λ x z. refl) (λ x z. rw (ne-eqb x v z)) (H .seen v))
+      rw (same-best v, same-length v l) at
+      (held-put v (getD (s .best) v 0) (rivalOf e (site v)) l (lineWith line v e) (s .order) (rw (T-true (isOpen s v) t, eq-eqb v v refl))
+      (λ x z. refl) (λ x z. rw (ne-eqb x v z)) (H .seen v))
 
   -- a node that has not been seen has not been taken
   pub unseen-untaken : (h : ℕ) → getD (s .best) h 0 ≡ 0 → taken s h ≡ false
@@ -92,15 +103,17 @@ module _ {n : ℕ} {site : ℕ → Bool} {line : ℕ → ℕ} {s : State} {from 
       → Holds n site (lineWith line h e) (put s h a (s .order)) from rest (set (set w h a) (n + h) (rivalOf e (site h)))
   unfolding taken
   held-open h l z a e p =
-      held-put h a (rivalOf e (site h)) l (lineWith line h e) (s .order) (rw (lt-ltb 0 a p, unseen-untaken h z, eq-eqb h h refl)) (λ x y. refl) (λ x y. rw (ne-eqb x h y)) (λ t. p)
+      held-put h a (rivalOf e (site h)) l (lineWith line h e) (s .order) (rw (lt-ltb 0 a p, unseen-untaken h z, eq-eqb h h refl))
+      (λ x y. refl) (λ x y. rw (ne-eqb x h y)) (λ t. p)
 
   -- an open node has another length
   pub held-shorten : (h : ℕ) → h < n → T (isOpen s h) → (a : ℕ) → 1 ≤ a → Holds n site line (put s h a (s .order)) from rest (set w h a)
   unfolding isOpen taken
   held-shorten h l t a p =
-      let q : T (not (memb h (s .order))) = and-both (ltb 0 (getD (s .best) h 0)) (not (memb h (s .order))) t .1 in
+      let u = T-true (not (taken s h)) (and-both (ltb 0 (getD (s .best) h 0)) (not (taken s h)) t .1) in
       let e : getD (set w h a) (n + h) 0 ≡ rivalOf (line h) (site h) = getD-set-other w h (n + h) a 0 (λ e. omega arith) ∙ rival-is H h l t in
-      rw (set-getD (set w h a) (n + h) 0) at (held-put h a (getD (set w h a) (n + h) 0) l line (s .order) (rw (lt-ltb 0 a p, T-true (not (memb h (s .order))) q) e) (λ x z. refl) (λ x z. refl) (λ z. p))
+      rw (set-getD (set w h a) (n + h) 0) at
+      (held-put h a (getD (set w h a) (n + h) 0) l line (s .order) (rw (lt-ltb 0 a p, u) e) (λ x z. refl) (λ x z. refl) (λ z. p))
 
   -- another node comes before h
   pub held-lead : (h : ℕ) → h < n → (x : ℕ) → Holds n site line s (set from h x) rest (set w (n + n + h) x)

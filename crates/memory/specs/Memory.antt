@@ -25,6 +25,15 @@ isTaken n w v = not (eqb (getD w v 0) 0) && eqb (getD w (n + v) 0) 0
 abbrev pub keyAt : ℕ → List ℕ → ℕ → ℕ
 keyAt n w v = total (getD w v 0 - 1) ((getD w (n + v) 0 - 1) / 2) * 2 + (getD w (n + v) 0 - 1) % 2
 
+-- what was found, and n for none
+abbrev pub orNone : ℕ → Option ℕ → ℕ
+orNone n none = n
+orNone n (some v) = v
+
+-- the open node below i that goes first
+abbrev pub leastIn : ℕ → List ℕ → ℕ → ℕ
+leastIn n w i = orNone n (first (λ v. not (eqb (getD w (n + v) 0) 0)) (keyAt n w) i)
+
 abbrev pub nextOf : Option ℕ → Next
 nextOf none = Nothing
 nextOf (some v) = Node v

@@ -1,8 +1,8 @@
 // The estimate of a node: the least straight line to a site that isn't taken.
 ghost use mathlib.Core.Path.{_≡_};
 ghost use mathlib.Core.Bool.{false};
-ghost use Prim.Native.Nat.{suc, _+_, _*_, _≤_, _<_};
-ghost use lib.ListN.{length};
+ghost use Prim.Native.Nat.{ℕ, suc, _+_, _-_, _*_, _≤_, _<_};
+ghost use lib.ListN.{length, getD};
 ghost use Rattle.straight.specs.Points.{farthest};
 ghost use Rattle.memory.specs.Memory.{rivalOf, isTaken};
 ghost use Rattle.memory.specs.Aim.{Ground, siteIn, leastTo, lineTo};
@@ -41,7 +41,10 @@ fn closer(
     best
 }
 
-fn less_one(x: u64) -> u64 {
+// One less, and 0 at 0.
+fn less_one(x: u64) -> u64
+    ensures { λ r. ⌜ r ≡ x - 1 ⌝ }
+{
     if x == 0 {
         return 0;
     }
@@ -73,11 +76,15 @@ pub fn line_from(
 }
 
 // Whether node v is a site.
-fn is_site(sites: &[u16], s: usize, v: usize) -> bool {
+fn is_site(sites: &[u16], s: usize, v: usize) -> bool
+    requires { ⌜ (s ≤ length (now sites)) × ((j : ℕ) → j < s → 1 ≤ getD (now sites) j 0) ⌝ }
+    ensures { λ r. ⌜ r ≡ siteIn (now (sites .entry)) s v ⌝ }
+{
     let mut j = 0;
     while j < s {
         let number = sites[j] as usize;
-        if number == v + 1 {
+        let node = number - 1;
+        if node == v {
             return true;
         }
         j += 1;

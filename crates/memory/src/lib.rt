@@ -3,7 +3,7 @@ ghost use mathlib.Core.Path.{_≡_};
 ghost use Prim.Native.Nat.{_+_, _-_, _*_, _≤_, _<_};
 ghost use lib.ListN.{length, getD, replicate};
 ghost use Rattle.meaning.specs.Search.{over};
-ghost use Rattle.memory.specs.Memory.{isTaken, keyAt, Chosen, SiteTold};
+ghost use Rattle.memory.specs.Memory.{isTaken, keyAt, leastIn, Chosen, SiteTold};
 pub use estimate::aim;
 use straight::Line;
 use straight::Road;
@@ -80,7 +80,10 @@ fn key(work: &[u32], n: usize, v: usize) -> u64
 }
 
 // The better of the one found so far, n for none, and v.
-fn better(work: &[u32], n: usize, best: usize, v: usize) -> usize {
+fn better(work: &[u32], n: usize, best: usize, v: usize) -> usize
+    requires { ⌜ (4 * n ≤ length (now work)) × ((v < n) × (best ≡ leastIn n (now work) v)) ⌝ }
+    ensures { λ r. ⌜ r ≡ leastIn n (now (work .entry)) (v + 1) ⌝ }
+{
     if work[n + v] == 0 {
         return best;
     }

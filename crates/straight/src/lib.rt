@@ -1,7 +1,8 @@
 // Road and straight line: the whole root, squared distances, and the total, where the two kinds of length meet.
 ghost use mathlib.Core.Path.{_≡_};
-ghost use Prim.Native.Nat.{_≤_};
-ghost use Rattle.meaning.specs.Straight.{root as rootOf, squares as squaresOf};
+ghost use Prim.Native.Nat.{_*_, _≤_};
+ghost use lib.IntN.{natAbs};
+ghost use Rattle.meaning.specs.Straight.{gap, root as rootOf, squares as squaresOf};
 ghost use Rattle.meaning.specs.Taking.{total as totalOf};
 ghost use Rattle.straight.specs.Points.{Placed, entry, farthest};
 
@@ -10,25 +11,28 @@ pub struct Road(pub u32);
 
 pub struct Line(pub u32);
 
-// The largest whole number whose square is at most x.
+// The largest whole number whose square is at most x, by Newton's method: the first guess is a power of two above the root, and each
+// next one is less and still no less than the root. Nothing is multiplied, so the square of a guess need not fit.
 pub fn root(x: u64) -> u64
     ensures { λ r. ⌜ r ≡ rootOf x ⌝ }
 {
-    let mut low: u64 = 0;
-    let mut high: u64 = 4294967296;
-    while low + 1 < high {
-        let middle = (low + high) / 2;
-        if middle * middle <= x {
-            low = middle;
-        } else {
-            high = middle;
-        }
+    if x == 0 {
+        return 0;
     }
-    low
+    let mut guess = 1u64 << ((65 - u64::leading_zeros(x)) / 2);
+    let mut share = x / guess;
+    while share < guess {
+        guess = (guess + share) / 2;
+        share = x / guess;
+    }
+    guess
 }
 
 // The square of the difference of two coordinates.
-fn apart(a: i32, b: i32) -> u64 {
+fn apart(a: i32, b: i32) -> u64
+    requires { ⌜ (natAbs a ≤ 200000000) × (natAbs b ≤ 200000000) ⌝ }
+    ensures { λ r. ⌜ r ≡ gap a b * gap a b ⌝ }
+{
     let d = (a as i64) - (b as i64);
     (d * d) as u64
 }
