@@ -451,6 +451,7 @@ def large():
     yield "the same on a slope of coordinates", Case(slope, chain, [NODES, 1], 1, 32)
     yield "32 routes of about 1000 nodes: ends of 16 bits", Case([(0, 0)] * NODES, chain, range(NODES, NODES - 32, -1), 1, 32, spare=0)
     yield "128 sites at the end of the chain", Case([(0, 0)] * NODES, chain, range(NODES, NODES - 128, -1), 1, 5)
+    yield "a straight line across the coordinates: the last digit of a root decides", rail(random.Random(6), 500)
     yield "a star: all 128 sites at equal length", Case([(0, 0)] * 129, [(129, v, 3) for v in range(128, 0, -1)], range(128, 0, -1), 129, 32)
     side = 32
     at = lambda x, y: 1 + side * y + x
@@ -462,6 +463,16 @@ def large():
     yield "the same grid as one spot", Case([(0, 0)] * 1024, grid, rng.sample(range(1, 1025), 128), at(0, 31), 32)
     yield "geometric, 600 nodes, clustered sites", geometric(random.Random(8), 600, 6, 1000, 60, 20)
     yield "geometric, 1024 nodes, a coarse scale", geometric(random.Random(9), 1024, 4, 40, 128, 32)
+
+
+def rail(rng, posts):
+    """A straight line of exact arcs across the coordinates, and beside each post a dead end at a detour of a few metres. The site, at
+    the far end, is three metres farther by road, so that a dead end is taken or not by the last digit of a root."""
+    line = [(-150000000 + 600000 * i, -COORDINATE + 800000 * i) for i in range(posts)]
+    dead = [(x + 300000 + rng.randint(-500, 500), y + 400000 + rng.randint(-500, 500)) for x, y in line]
+    arcs = [(i, i + 1, WEIGHT) for i in range(1, posts)] + [(posts, 2 * posts + 1, 1003)]
+    arcs += [(i, posts + i, tight(line[i - 1], dead[i - 1]) + rng.randint(0, 6)) for i in range(1, posts + 1)]
+    return Case([*line, *dead, (line[-1][0] + 600, line[-1][1] + 800)], arcs, [2 * posts + 1])
 
 
 def geometric(rng, n, out, scale, sites, k):
@@ -489,7 +500,7 @@ def tight(p, q):
 def chance(rng):
     """A region of 2 to 12 nodes with tight weights, so that ties abound."""
     n = rng.randint(2, 12)
-    scale = rng.choice([0, 1, 2, 4, 9, 30])
+    scale = rng.choice([0, 1, 2, 4, 9, 30, 350000])
     points = [(rng.randint(-scale, scale), rng.randint(-scale, scale)) for _ in range(n)]
     pairs = [(rng.randint(1, n), rng.randint(1, n)) for _ in range(rng.randint(0, 4 * n))]
     slack = rng.choice([[0], [0, 1], [0, 0, 0, 1, 2], [0, 5]])

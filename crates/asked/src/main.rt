@@ -218,7 +218,7 @@ fn answer(a: Answer, routes: &[u16], ends: &[u16]) {
     }
 }
 
-fn called(
+fn searched(
     tails: &[u16],
     heads: &[u16],
     weights: &[u32],
@@ -237,25 +237,6 @@ fn called(
     let s = c[3];
     let query = c[4];
     let k = c[5];
-    if c[0] == 0 {
-        return search::panel(
-            tails,
-            heads,
-            weights,
-            xs,
-            ys,
-            sites,
-            n,
-            m,
-            s,
-            query,
-            work,
-            listed,
-            lengths,
-            ends,
-            routes,
-        );
-    }
     search::search(
         tails,
         heads,
@@ -276,7 +257,7 @@ fn called(
     )
 }
 
-fn asked_in(
+fn panelled(
     tails: &[u16],
     heads: &[u16],
     weights: &[u32],
@@ -289,27 +270,61 @@ fn asked_in(
     lengths: &mut [u32],
     ends: &mut [u16],
     routes: &mut [u16],
-) {
-    let a = called(
+) -> Answer {
+    let n = c[1];
+    let m = c[2];
+    let s = c[3];
+    let query = c[4];
+    search::panel(
         tails,
         heads,
         weights,
         xs,
         ys,
         sites,
-        c,
+        n,
+        m,
+        s,
+        query,
         work,
         listed,
         lengths,
         ends,
         routes,
-    );
+    )
+}
+
+fn told(a: Answer, work: &[u32], listed: &[u16], lengths: &[u32], ends: &[u16], routes: &[u16]) {
     answer(a, routes, ends);
     buffer_wide(b" w", work);
     buffer(b" s", listed);
     buffer_wide(b" d", lengths);
     buffer(b" e", ends);
     buffer(b" r", routes);
+}
+
+// The call that the case's first number names, with the six columns and the five buffers.
+fn asked_in(
+    t: &[u16],
+    h: &[u16],
+    w: &[u32],
+    x: &[i32],
+    y: &[i32],
+    z: &[u16],
+    c: &[usize; 17],
+    work: &mut [u32],
+    listed: &mut [u16],
+    lengths: &mut [u32],
+    ends: &mut [u16],
+    routes: &mut [u16],
+) {
+    if c[0] == 0 {
+        let a = panelled(t, h, w, x, y, z, c, work, listed, lengths, ends, routes);
+        told(a, work, listed, lengths, ends, routes);
+    } else {
+        let a = searched(t, h, w, x, y, z, c, work, listed, lengths, ends, routes);
+        told(a, work, listed, lengths, ends, routes);
+    }
 }
 
 // The buffers hold 7 everywhere, and the case says how much of each is lent.
