@@ -55,7 +55,7 @@ fn wide(v: usize) -> u32 {
     if 4294967295 < v { 4294967295 } else { v as u32 }
 }
 
-// Each of the next four fills a table from a position on, and answers where the case goes on.
+// Each of the next four fills the first entries of a table from a position on, and answers where the case goes on.
 fn counts(s: &[u8], from: usize, t: &mut [usize]) -> usize
     requires { ⌜ from ≤ length (now s) ⌝ }
     ensures { λ r. ⌜ r ≤ length (now (s .entry)) ⌝ }
@@ -70,13 +70,14 @@ fn counts(s: &[u8], from: usize, t: &mut [usize]) -> usize
     at
 }
 
-fn numbers(s: &[u8], from: usize, t: &mut [u16]) -> usize
+fn numbers(s: &[u8], from: usize, t: &mut [u16], most: usize) -> usize
     requires { ⌜ from ≤ length (now s) ⌝ }
     ensures { λ r. ⌜ r ≤ length (now (s .entry)) ⌝ }
 {
+    let end = least(most, t.len());
     let mut at = from;
     let mut i = 0;
-    while i < t.len() {
+    while i < end {
         t[i] = narrow(count_at(s, at));
         at = past(s, at);
         i += 1;
@@ -84,13 +85,14 @@ fn numbers(s: &[u8], from: usize, t: &mut [u16]) -> usize
     at
 }
 
-fn weighed(s: &[u8], from: usize, t: &mut [u32]) -> usize
+fn weighed(s: &[u8], from: usize, t: &mut [u32], most: usize) -> usize
     requires { ⌜ from ≤ length (now s) ⌝ }
     ensures { λ r. ⌜ r ≤ length (now (s .entry)) ⌝ }
 {
+    let end = least(most, t.len());
     let mut at = from;
     let mut i = 0;
-    while i < t.len() {
+    while i < end {
         t[i] = wide(count_at(s, at));
         at = past(s, at);
         i += 1;
@@ -98,13 +100,14 @@ fn weighed(s: &[u8], from: usize, t: &mut [u32]) -> usize
     at
 }
 
-fn placed(s: &[u8], from: usize, t: &mut [i32]) -> usize
+fn placed(s: &[u8], from: usize, t: &mut [i32], most: usize) -> usize
     requires { ⌜ from ≤ length (now s) ⌝ }
     ensures { λ r. ⌜ r ≤ length (now (s .entry)) ⌝ }
 {
+    let end = least(most, t.len());
     let mut at = from;
     let mut i = 0;
-    while i < t.len() {
+    while i < end {
         t[i] = signed_at(s, at);
         at = past(s, at);
         i += 1;
@@ -154,17 +157,22 @@ fn digest_wide(t: &[u32]) {
     show(sum);
 }
 
-fn each(t: &[u16]) {
+// The first entries, `most` of them.
+fn each(t: &[u16], most: usize)
+    requires { ⌜ most ≤ length (now t) ⌝ }
+{
     let mut i = 0;
-    while i < t.len() {
+    while i < most {
         show(long(t[i]));
         i += 1;
     }
 }
 
-fn each_wide(t: &[u32]) {
+fn each_wide(t: &[u32], most: usize)
+    requires { ⌜ most ≤ length (now t) ⌝ }
+{
     let mut i = 0;
-    while i < t.len() {
+    while i < most {
         show(longer(t[i]));
         i += 1;
     }
@@ -175,22 +183,20 @@ fn buffer(name: &[u8], t: &[u16]) {
     io::write_all(STDOUT_FILENO, name);
     show(t.len() as u64);
     digest(t);
-    let most = least(t.len(), 64);
-    each(&t[..most]);
+    each(t, least(t.len(), 64));
 }
 
 fn buffer_wide(name: &[u8], t: &[u32]) {
     io::write_all(STDOUT_FILENO, name);
     show(t.len() as u64);
     digest_wide(t);
-    let most = least(t.len(), 64);
-    each_wide(&t[..most]);
+    each_wide(t, least(t.len(), 64));
 }
 
 fn stretch(r: &[u16]) {
     io::write_all(STDOUT_FILENO, b" :");
     show(r.len() as u64);
-    each(r);
+    each(r, r.len());
 }
 
 // The listed routes, each by the call for it.
@@ -363,6 +369,33 @@ fn asked(
     );
 }
 
+// The case says how much of each table is lent.
+fn lent(
+    tails: &[u16],
+    heads: &[u16],
+    weights: &[u32],
+    xs: &[i32],
+    ys: &[i32],
+    sites: &[u16],
+    c: &[usize; 17],
+) {
+    let t = least(c[6], tails.len());
+    let h = least(c[7], heads.len());
+    let w = least(c[8], weights.len());
+    let x = least(c[9], xs.len());
+    let y = least(c[10], ys.len());
+    let z = least(c[11], sites.len());
+    asked(
+        &tails[..t],
+        &heads[..h],
+        &weights[..w],
+        &xs[..x],
+        &ys[..y],
+        &sites[..z],
+        c,
+    );
+}
+
 // The tables of a case, behind its numbers.
 fn search_case(s: &[u8]) {
     let mut c = [0usize; 17];
@@ -373,27 +406,19 @@ fn search_case(s: &[u8]) {
     let mut ys = [7i32; 1030];
     let mut sites = [7u16; 140];
     let at = counts(s, 0, &mut c);
-    let t = least(c[6], 4100);
-    let h = least(c[7], 4100);
-    let w = least(c[8], 4100);
-    let x = least(c[9], 1030);
-    let y = least(c[10], 1030);
-    let z = least(c[11], 140);
-    let at = numbers(s, at, &mut tails[..t]);
-    let at = numbers(s, at, &mut heads[..h]);
-    let at = weighed(s, at, &mut weights[..w]);
-    let at = placed(s, at, &mut xs[..x]);
-    let at = placed(s, at, &mut ys[..y]);
-    numbers(s, at, &mut sites[..z]);
-    asked(
-        &tails[..t],
-        &heads[..h],
-        &weights[..w],
-        &xs[..x],
-        &ys[..y],
-        &sites[..z],
-        &c,
-    );
+    let at = numbers(s, at, &mut tails, c[6]);
+    let at = numbers(s, at, &mut heads, c[7]);
+    let at = weighed(s, at, &mut weights, c[8]);
+    let at = placed(s, at, &mut xs, c[9]);
+    let at = placed(s, at, &mut ys, c[10]);
+    numbers(s, at, &mut sites, c[11]);
+    lent(&tails, &heads, &weights, &xs, &ys, &sites, &c);
+}
+
+fn routed(routes: &[u16], ends: &[u16], c: &[usize; 3]) {
+    let e = least(c[1], ends.len());
+    let r = least(c[2], routes.len());
+    stretch(search::route(&routes[..r], &ends[..e], c[0]));
 }
 
 fn route_case(s: &[u8]) {
@@ -401,11 +426,9 @@ fn route_case(s: &[u8]) {
     let mut ends = [7u16; 40];
     let mut routes = [7u16; 33000];
     let at = counts(s, 0, &mut c);
-    let e = least(c[1], 40);
-    let r = least(c[2], 33000);
-    let at = numbers(s, at, &mut ends[..e]);
-    numbers(s, at, &mut routes[..r]);
-    stretch(search::route(&routes[..r], &ends[..e], c[0]));
+    let at = numbers(s, at, &mut ends, c[1]);
+    numbers(s, at, &mut routes, c[2]);
+    routed(&routes, &ends, &c);
 }
 
 fn run(kind: u8, s: &[u8]) {
