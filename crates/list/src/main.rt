@@ -179,8 +179,8 @@ fn queries(
     asked: &[u16],
     count: usize,
     aloud: bool,
+    work: &mut [u32],
 ) {
-    let mut work = [0u32; 4096];
     let mut i = 0;
     while i < count {
         if asked.len() <= i {
@@ -198,7 +198,7 @@ fn queries(
             s,
             asked[i],
             aloud,
-            &mut work,
+            work,
         ) {
             return;
         }
@@ -221,6 +221,7 @@ fn with_sites(
     text: &mut [u8],
 ) {
     let mut asked = [0u16; 128];
+    let mut work = [0u32; 4096];
     let got = load(b"ask.ss", text);
     match readers::read_sites(&text[..got], n, &mut asked) {
         Read::Refused { number, place } => refused(aloud, b"ask.ss", b", line ", number, place),
@@ -237,6 +238,7 @@ fn with_sites(
             &asked,
             rows,
             aloud,
+            &mut work,
         ),
     }
 }

@@ -3,9 +3,6 @@ use lib.ListN.{length}
 use borrow.Author.Needs.{needs}
 use Rattle.list.proofs.route.Statement.{statement}
 use Rattle.list.proofs.route.Tie as tie
-use Rattle.list.proofs.route.Reads as reads
-use Rattle.list.proofs.route.Lts as lts
-use Rattle.list.proofs.node.Reads as node-reads
 
 abbrev Inv-loop : tie.InvT-loop
 Inv-loop nodes i₀ i = i ≤ length nodes
