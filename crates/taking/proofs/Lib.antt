@@ -3,3 +3,4 @@ pub mod Parents
 mod Reaching
 mod Renewing
 mod Following
+mod Grouping
