@@ -1,13 +1,12 @@
--- The arcs of a taken node, one after the other; the start; a node taken.
-use mathlib.Core.Bool.{Bool, true, false, not, cond, _&&_}
+-- The start; the arcs of a taken node, one after the other; a node taken.
+use mathlib.Core.Bool.{Bool, true, false, not, cond}
 use mathlib.Core.List.{List, []}
-use mathlib.Core.Path.{_≡_, refl, sym, _∙_}
+use mathlib.Core.Path.{_≡_, refl, _∙_}
 use Prim.Native.Nat.{ℕ, zero, suc, _+_, _-_, _*_, _≤_, _<_}
 use native.Mathlib.Decide.{decLt}
 use native.Mathlib.Numerals.{add-one}
 use native.Mathlib.Omega.{arith}
 use borrow.Author.Tests.{eq-eqb, ne-eqb}
-use lib.Dec.{T, eqb}
 use lib.IntN.{ℤ}
 use lib.ListN.{length, getD, set, drop, replicate, getD-replicate}
 use Rattle.meaning.specs.Region.{Tables, tables, regionOf, isSite}
@@ -21,7 +20,7 @@ use Rattle.memory.proofs.Writes.{held-none, held-open, held-same}
 use Rattle.taking.specs.Ways.{Spanned}
 use Rattle.taking.specs.Parents.{parentAt, parentBy, parentsTo, parents1}
 use Rattle.taking.specs.Steps.{places, Live, reached, Reached, Relaxed, Closed, Took}
-use Rattle.taking.proofs.Reaching.{unseen-is, with-own}
+use Rattle.taking.proofs.Reaching.{unseen-not-taken, with-own}
 
 -- ---- the start
 
@@ -29,8 +28,9 @@ use Rattle.taking.proofs.Reaching.{unseen-is, with-own}
 pub none-taken : (n q : ℕ) (w w₁ : List ℕ) → 4 * n ≤ length w → q < n → w₁ ≡ over (replicate (4 * n) 0) w → isTaken n w₁ q ≡ false
 none-taken n q w w₁ room l e =
     let H = held-none n (λ v. false) (λ v. 0) w room in
-    unseen-is n q w₁ (rw e (H .lens q l ∙ getD-replicate n q 0 0 l))
+    unseen-not-taken n q w₁ (rw e (H .lens q l ∙ getD-replicate n q 0 0 l))
 
+-- the query node is opened in a memory of zeros
 pub started : (t : Tables) (q : ℕ) (w w₁ : List ℕ) → 4 * t .n ≤ length w → q < t .n → Ground (t .xs) (t .ys) (t .sites) (t .n) (t .s) → w₁ ≡ over (replicate (4 * t .n) 0) w
     → (r : ℕ) → r ≡ rivalOf (lineTo (t .xs) (t .ys) (t .sites) (t .n) (t .s) w₁ q) (siteIn (t .sites) (t .s) q)
     → Live t (start (regionOf t) q) (replicate (t .n) 0) (drop (4 * t .n) w) (set (set w₁ q 1) (t .n + q) r)
@@ -59,6 +59,7 @@ head-reached t u d i s from rest w e y = rw (eq-eqb (getD (t .tails) i 0 - 1) u 
     go true y = y
     go false y = y
 
+-- how far the arcs have been followed
 pub record Following (t : Tables) (u i : ℕ) (w w' : List ℕ) : Type 0 where
   pub below : i ≤ t .m
   pub size : length w' ≡ length w
@@ -113,12 +114,8 @@ module _ (t : Tables) (u : ℕ) (w : List ℕ) (low : (x : ℕ) → x < t .m →
 
 -- ---- a node taken
 
--- the arcs don't show in what the memory holds
+-- the arcs don't show in what the memory holds: what is shown of points and sites alone holds of all tables
 module _ (tails heads weights : List ℕ) (xs ys : List ℤ) (sites : List ℕ) (n m s : ℕ) where
-  pub live-any : (state : State) (from rest w : List ℕ) → Live (places xs ys sites n s) state from rest w ≡ Live (tables tails heads weights xs ys sites n m s) state from rest w
-  unfolding isSite aimed toSites
-  live-any state from rest w = refl
-
   pub reached-any : (u h at : ℕ) (w w' : List ℕ) → Reached (places xs ys sites n s) u h at w w' → Reached (tables tails heads weights xs ys sites n m s) u h at w w'
   unfolding isSite aimed toSites
   reached-any u h at w w' x = x

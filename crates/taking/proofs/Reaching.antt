@@ -1,8 +1,8 @@
 -- What an arc that reaches a node does to the state that the memory holds, by the node's length before.
-use mathlib.Core.Bool.{Bool, true, false, not, cond, _||_, _&&_}
+use mathlib.Core.Bool.{Bool, true, false, not, cond, _&&_}
 use mathlib.Core.List.{List}
-use mathlib.Core.Path.{_≡_, refl, sym, ap, _∙_, subst}
-use Prim.Native.Nat.{ℕ, zero, suc, _+_, _*_, _≤_, _<_, min}
+use mathlib.Core.Path.{_≡_, refl, sym, ap, _∙_}
+use Prim.Native.Nat.{ℕ, zero, suc, _+_, _≤_, _<_}
 use native.Mathlib.Numerals.{add-one}
 use native.Mathlib.Omega.{arith}
 use borrow.Author.Tests.{eq-eqb, ne-eqb, lt-ltb, le-ltb}
@@ -21,7 +21,7 @@ use Rattle.memory.proofs.Writes.{lineWith, unseen-untaken, held-lead, held-open
 use Rattle.taking.specs.Parents.{parentAt}
 use Rattle.taking.specs.Steps.{reached, Arrived, Reached}
 
--- ---- the number before
+-- ---- the number before, by the length of h and that of the arc
 
 module _ (tk : ℕ → Bool) (u at h : ℕ) (best from : List ℕ) where
   parent-same : getD best h 0 ≡ at → parentAt tk u at h best from ≡ cond (ltb (suc u) (getD from h 0)) (set from h (suc u)) from
@@ -72,11 +72,12 @@ stays s h at l g = go (taken s h)
 moves : (s : State) (h at : ℕ) → taken s h ≡ false → lower (getD (s .best) h 0) at ≡ at → cond (taken s h) s (reached s h at) ≡ record { best = set (s .best) h at; order = s .order }
 moves s h at k e = rw (k, e)
 
+-- an open node has not been taken
 open-untaken : (s : State) (v : ℕ) → T (isOpen s v) → taken s v ≡ false
 unfolding isOpen
 open-untaken s v o = T-false (taken s v) (and-both (ltb 0 (getD (s .best) v 0)) (not (taken s v)) o .1)
 
--- ---- the arms
+-- ---- the length is the arc's, shorter or longer
 
 module _ (n u h : ℕ) (w : List ℕ) (l : h < n) where
   pub lower-here : u + 1 < getD w (n + n + h) 0 → Arrived n u h (getD w h 0) w (set w (n + n + h) (u + 1))
@@ -113,8 +114,9 @@ longer n u h at w l z g site line s from rest p H =
 
 -- ---- with the estimates
 
-pub unseen-is : (n h : ℕ) (w : List ℕ) → getD w h 0 ≡ 0 → isTaken n w h ≡ false
-unseen-is n h w e = rw (eq-eqb (getD w h 0) 0 e)
+-- a node that has not been seen has not been taken
+pub unseen-not-taken : (n h : ℕ) (w : List ℕ) → getD w h 0 ≡ 0 → isTaken n w h ≡ false
+unseen-not-taken n h w e = rw (eq-eqb (getD w h 0) 0 e)
 
 -- the estimates follow the taken nodes, and no node is taken
 pub arrived-live : (t : Tables) (u h at : ℕ) (w w' : List ℕ) → Arrived (t .n) u h at w w' → Reached t u h at w w'
@@ -135,6 +137,7 @@ with-own line v x = go (eqb x v) (eqb→eq x v)
     go true e = rw (e tt)
     go false e = refl
 
+-- a node that has not been seen is opened, with the estimate just made
 pub opened : (t : Tables) (u h at : ℕ) (w : List ℕ) → Ground (t .xs) (t .ys) (t .sites) (t .n) (t .s) → h < t .n → getD w h 0 ≡ 0
     → (r : ℕ) → r ≡ rivalOf (lineTo (t .xs) (t .ys) (t .sites) (t .n) (t .s) w h) (siteIn (t .sites) (t .s) h)
     → Reached t u h at w (set (set (set w h at) (t .n + h) r) (t .n + t .n + h) (u + 1))

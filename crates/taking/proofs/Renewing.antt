@@ -2,7 +2,7 @@
 use mathlib.Core.Bool.{Bool, true, false, not, cond, _||_, _&&_}
 use mathlib.Core.List.{List}
 use mathlib.Core.Path.{_≡_, refl, sym, _∙_, fun-ext}
-use Prim.Native.Nat.{ℕ, suc, _+_, _*_, _≤_, _<_}
+use Prim.Native.Nat.{ℕ, _+_, _≤_, _<_}
 use native.Mathlib.Decide.{decLt, ℕ-discrete}
 use native.Mathlib.Omega.{arith}
 use borrow.Author.Tests.{eq-eqb, ne-eqb, lt-ltb, le-ltb}
@@ -25,8 +25,9 @@ rival-apart n v r w x l = getD-set-other w (n + v) x r 0 (λ e. omega arith)
 
 -- ---- one node
 
-pub open-untaken : (n v : ℕ) (w : List ℕ) → (getD w (n + v) 0 ≡ 0 → ⊥) → isTaken n w v ≡ false
-open-untaken n v w z = rw (ne-eqb (getD w (n + v) 0) 0 z) (go (not (eqb (getD w v 0) 0)))
+-- an open node has not been taken
+pub open-not-taken : (n v : ℕ) (w : List ℕ) → (getD w (n + v) 0 ≡ 0 → ⊥) → isTaken n w v ≡ false
+open-not-taken n v w z = rw (ne-eqb (getD w (n + v) 0) 0 z) (go (not (eqb (getD w v 0) 0)))
   where
     go : (b : Bool) → b && false ≡ false
     go true = refl
@@ -52,6 +53,7 @@ RenewedTo t v w w' =
     (line : ℕ → ℕ) (s : State) (from rest : List ℕ) → Holds (t .n) (isSite (regionOf t)) line s from rest w
     → Holds (t .n) (isSite (regionOf t)) (λ x. cond (ltb x v) (aimOf t (aimed (regionOf t) s) x) (line x)) s from rest w'
 
+-- how far a renewal has come
 pub record Renewing (t : Tables) (v : ℕ) (w w' : List ℕ) : Type 0 where
   pub below : v ≤ t .n
   pub size : length w' ≡ length w
@@ -66,6 +68,7 @@ renew-none t w = record {
   done = λ line s from rest H. held-same H _ (λ x l o. rw (le-ltb x 0 (omega arith)));
 }
 
+-- f below v and at v is f below v + 1
 one-more : (f g : ℕ → ℕ) (v x : ℕ) → cond (eqb x v) (f v) (cond (ltb x v) (f x) (g x)) ≡ cond (ltb x (v + 1)) (f x) (g x)
 one-more f g v x = go (ℕ-discrete x v) (decLt x v)
   where

@@ -42,10 +42,13 @@ returns-2 c =
     let start = c .before .before .before .before .before .before .before .before .before in
     let site = c .before .before .before .before .before .is-rival-site in
     let renew = c .before .before .renew in
-    let told : SiteTold (start .args .n) (start .args .work .now) (start .args .u) true = rw (not-false (site .result) (c .before .before .before .before .if1 .left)) at (site .ensures) in
-    (told,
-     ((λ v l. renew .ensures .0 v l ∙ rival-apart (start .args .n) (start .args .u) 0 (start .args .work .now) v l),
-      close-site (places (start .args .xs .now) (start .args .ys .now) (start .args .sites .now) (start .args .n) (start .args .s)) (start .args .u) (start .args .work .now) (start .pre .0 .1) _ (renew .ensures .1)))
+    let told : SiteTold (start .args .n) (start .args .work .now) (start .args .u) true = rw (not-false (site .result) (c .before .before .before .before .if1 .left)) at (site .ensures) in (
+      told,
+      (
+        (λ v l. renew .ensures .0 v l ∙ rival-apart (start .args .n) (start .args .u) 0 (start .args .work .now) v l),
+        close-site (places (start .args .xs .now) (start .args .ys .now) (start .args .sites .now) (start .args .n) (start .args .s)) (start .args .u) (start .args .work .now) (start .pre .0 .1) _ (renew .ensures .1),
+      ),
+    )
 
 pub close-spec : {M : Type 1} → statement M
 close-spec =

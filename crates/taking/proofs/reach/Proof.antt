@@ -2,7 +2,7 @@ use borrow.Author.Needs.{needs}
 use native.Mathlib.Omega.{arith}
 use lib.ListN.{length-set}
 use Rattle.taking.specs.Steps.{places}
-use Rattle.taking.proofs.Reaching.{longer, arrived-live, unseen-is, opened}
+use Rattle.taking.proofs.Reaching.{longer, arrived-live, unseen-not-taken, opened}
 use Rattle.taking.proofs.reach.Statement.{statement}
 use Rattle.taking.proofs.reach.Tie as tie
 
@@ -15,7 +15,7 @@ slice-read-old c = search needs
 aim-requires : tie.Need-aim-requires
 aim-requires c κs =
     let start = c .before .before .before .before .before in
-    ((start .pre .0 .0, (start .pre .0 .1 .1 .1, unseen-is (start .args .n) (start .args .h) (start .args .work .now) (c .before .if1 .taken))), start .pre .1)
+    ((start .pre .0 .0, (start .pre .0 .1 .1 .1, unseen-not-taken (start .args .n) (start .args .h) (start .args .work .now) (c .before .if1 .taken))), start .pre .1)
 
 mul-work : tie.Need-mul-work
 mul-work c = search needs

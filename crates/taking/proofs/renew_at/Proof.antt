@@ -1,7 +1,7 @@
 use borrow.Author.Needs.{needs}
 use mathlib.Core.Path.{refl}
 use Rattle.taking.specs.Steps.{places}
-use Rattle.taking.proofs.Renewing.{rival-apart, open-untaken, renew-open, renew-shut}
+use Rattle.taking.proofs.Renewing.{rival-apart, open-not-taken, renew-open, renew-shut}
 use Rattle.taking.proofs.renew_at.Statement.{statement}
 use Rattle.taking.proofs.renew_at.Tie as tie
 
@@ -17,7 +17,7 @@ slice-read-if1 c = search needs
 aim-requires : tie.Need-aim-requires
 aim-requires c κs =
     let start = c .before .before .before .before .before in
-    ((start .pre .0 .0, (start .pre .0 .1, open-untaken (start .args .n) (start .args .v) (start .args .work .now) (c .before .if1 .taken))), start .pre .1)
+    ((start .pre .0 .0, (start .pre .0 .1, open-not-taken (start .args .n) (start .args .v) (start .args .work .now) (c .before .if1 .taken))), start .pre .1)
 
 add-work : tie.Need-add-work
 add-work c = search needs
