@@ -50,5 +50,3 @@ module _ (ok : ℕ → Bool) (key : ℕ → ℕ) (n i b : ℕ) (low : i ≤ n) (
 pub above-zero : (x : ℕ) → T (not (eqb x 0)) → 0 < x
 above-zero zero t = absurd t
 above-zero (suc x) t = omega arith
-
-

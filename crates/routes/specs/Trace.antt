@@ -20,6 +20,13 @@ unfoldable pub linesIn : ℕ → List ℕ → List ℕ → List Stop
 linesIn n w [] = []
 linesIn n w (x ∷ xs) = record { node = x - 1; len = getD w (x - 1) 0 - 1; way = wayIn n w (x - 1) } ∷ linesIn n w xs
 
+-- the memory leads back to nodes
+pub record Linked (n : ℕ) (w : List ℕ) : Type 0 where
+  pub one : 1 ≤ n
+  pub nodes : n ≤ 1024
+  pub room : 4 * n ≤ length w
+  pub back : (v : ℕ) → v < n → getD w (n + n + v) 0 ≤ n
+
 -- what writing the first `count` routes asks: the memory leads back to nodes, and the listed sites are nodes
 pub record Leads (n : ℕ) (w listed : List ℕ) (count : ℕ) : Type 0 where
   pub one : 1 ≤ n

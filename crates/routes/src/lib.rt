@@ -1,39 +1,49 @@
 // The routes: back from each listed site by the nodes before, and written from query to site.
 ghost use mathlib.Core.Path.{_≡_};
-ghost use Prim.Native.Nat.{_*_, _≤_};
+ghost use mathlib.Core.List.{map};
+ghost use Prim.Native.Nat.{suc, _+_, _*_, _≤_, _<_};
 ghost use lib.ListN.{length, take};
+ghost use lib.Seq.{sets};
 ghost use Rattle.meaning.specs.Search.{over, backToBack, endsAfter};
-ghost use Rattle.routes.specs.Trace.{linesIn, Leads};
+ghost use Rattle.routes.specs.Trace.{wayIn, linesIn, Linked, Leads};
 
-// The number of steps back from v, at most n - 1.
-fn steps(work: &[u32], n: usize, v: usize) -> usize {
+// The number of nodes on the route to v.
+fn size(work: &[u32], n: usize, v: usize) -> usize
+    requires { ⌜ Linked n (now work) ⌝ }
+    requires { ⌜ v < n ⌝ }
+    ensures { λ r. ⌜ r ≡ length (wayIn n (now (work .entry)) v) ⌝ }
+{
     let mut here = v;
-    let mut done: usize = 0;
-    let mut left = n - 1;
-    while 0 < left {
+    let mut count = 1;
+    while count < n {
         let number = memory::before(work, n, here);
         if number == 0 {
-            return done;
+            return count;
         }
         here = number - 1;
-        done += 1;
-        left -= 1;
+        count += 1;
     }
-    done
+    count
 }
 
-// The route to v is written from entry `at` on; the answer is its end.
-fn write_route(work: &[u32], n: usize, v: usize, routes: &mut [u16], at: usize) -> usize {
-    let count = steps(work, n, v);
+// The route to v is written from entry `at` on, its last node first; the answer is its end.
+fn write_route(work: &[u32], n: usize, v: usize, routes: &mut [u16], at: usize) -> usize
+    requires { ⌜ Linked n (now work) ⌝ }
+    requires { ⌜ (v < n) × (at + n ≤ length (now routes)) ⌝ }
+    ensures { λ r. ⌜ r ≡ at + length (wayIn n (now (work .entry)) v) ⌝ }
+    ensures { λ r. ⌜ now (routes .exit) ≡ sets (now (routes .entry)) at (map suc (wayIn n (now (work .entry)) v)) ⌝ }
+{
+    let count = size(work, n, v);
     let mut here = v;
-    let mut left = count;
-    while 0 < left {
-        routes[at + left] = (here + 1) as u16;
+    let mut done = 1;
+    loop {
+        routes[at + (count - done)] = (here + 1) as u16;
+        if done == count {
+            return at + count;
+        }
         here = memory::before(work, n, here) - 1;
-        left -= 1;
+        done += 1;
     }
-    routes[at] = (here + 1) as u16;
-    at + count + 1
 }
 
 // The routes of the first `count` listed sites, back to back, and their ends.
@@ -54,8 +64,9 @@ pub fn write_routes(
     let mut i = 0;
     while i < count {
         let number = listed[i] as usize;
-        at = write_route(work, n, number - 1, routes, at);
-        ends[i] = at as u16;
+        let end = write_route(work, n, number - 1, routes, at);
+        ends[i] = end as u16;
+        at = end;
         i += 1;
     }
 }

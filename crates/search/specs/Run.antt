@@ -1,8 +1,9 @@
 -- A run of the taking rule over tables that passed the checks.
+use mathlib.Core.Bool.{Bool, cond}
 use mathlib.Core.List.{List, map}
 use mathlib.Core.Path.{_≡_}
 use Prim.Native.Nat.{ℕ, suc, _-_, _*_}
-use lib.ListN.{length, drop}
+use lib.ListN.{length, set, drop}
 use Rattle.meaning.specs.Limits.{base}
 use Rattle.meaning.specs.Region.{Tables, Rooms, Region, regionOf}
 use Rattle.meaning.specs.Checks.{inspect}
@@ -24,6 +25,12 @@ stateAt t q k i = after (regionOf t) (aimOf t) k (q - 1) i
 -- its sites, in the order in which they were taken
 abbrev pub sitesAt : Tables → State → List ℕ
 sitesAt t s = sitesOf (regionOf t) (s .order)
+
+-- a taken node goes to the end of a list of c entries if it is a site, at its length d; any other node leaves the list as it is
+pub record Put (site : Bool) (v d c : ℕ) (listed lengths listed' lengths' : List ℕ) (c' : ℕ) : Type 0 where
+  pub count-is : c' ≡ cond site (suc c) c
+  pub listed-is : listed' ≡ cond site (set listed c (suc v)) listed
+  pub lengths-is : lengths' ≡ cond site (set lengths c d) lengths
 
 -- i steps have been made: what was lent at first, and what stands there now
 pub record Ran (t : Tables) (q k i : ℕ) (work listed lengths work' listed' lengths' : List ℕ) (sites taken : ℕ) : Type 0 where

@@ -1,11 +1,11 @@
 // The search, the panel call and the stretch of a listed route.
 ghost use mathlib.Core.Path.{_≡_};
-ghost use Prim.Native.Nat.{_*_, _≤_};
-ghost use lib.ListN.{length};
+ghost use Prim.Native.Nat.{_-_, _*_, _≤_, _<_};
+ghost use lib.ListN.{length, getD};
 ghost use Rattle.meaning.specs.Limits.{base};
 ghost use Rattle.meaning.specs.Region.{tables, rooms};
 ghost use Rattle.meaning.specs.Search.{Searched, Panelled, stretch, beginOf, between};
-ghost use Rattle.search.specs.Run.{Passed, Ran};
+ghost use Rattle.search.specs.Run.{Passed, Put, Ran};
 use meaning::Answer;
 use meaning::PANEL_K;
 use meaning::Verdict;
@@ -26,7 +26,11 @@ fn list(
     listed: &mut [u16],
     lengths: &mut [u32],
     count: usize,
-) -> usize {
+) -> usize
+    requires { ⌜ (4 * n ≤ length (now work)) × ((v < n) × (n ≤ 1024)) ⌝ }
+    requires { ⌜ (count < length (now listed)) × (count < length (now lengths)) ⌝ }
+    ensures { λ r. ⌜ Put site v (getD (now (work .entry)) v 0 - 1) count (now (listed .entry)) (now (lengths .entry)) (now (listed .exit)) (now (lengths .exit)) r ⌝ }
+{
     if !site {
         return count;
     }
@@ -59,6 +63,7 @@ fn run(
         (now (work .entry)) (now (listed .entry)) (now (lengths .entry)) (now (work .exit)) (now (listed .exit)) (now (lengths .exit)) (r .sites) (r .taken) ⌝ }
 {
     taking::start(xs, ys, sites, n, s, query - 1, work);
+    let grouped = taking::grouped(tails, m);
     let mut count = 0;
     let mut taken = 0;
     while taken < n {
@@ -71,7 +76,20 @@ fn run(
         let Next::Node(u) = memory::least_open(work, n) else {
             break;
         };
-        let site = taking::take(tails, heads, weights, xs, ys, sites, n, m, s, u, work);
+        let site = taking::take(
+            tails,
+            heads,
+            weights,
+            xs,
+            ys,
+            sites,
+            n,
+            m,
+            s,
+            grouped,
+            u,
+            work,
+        );
         count = list(work, n, u, site, listed, lengths, count);
         taken += 1;
     }
@@ -207,7 +225,10 @@ fn part<'a>(routes: &'a [u16], a: usize, e: usize) -> &'a [u16]
 }
 
 // Where the route of a rank begins: at the end of the one before.
-fn begin(ends: &[u16], rank: usize) -> usize {
+fn begin(ends: &[u16], rank: usize) -> usize
+    requires { ⌜ rank ≤ length (now ends) ⌝ }
+    ensures { λ r. ⌜ r ≡ beginOf (now (ends .entry)) rank ⌝ }
+{
     if 1 < rank {
         return ends[rank - 2] as usize;
     }

@@ -33,16 +33,14 @@ loop-again c = (omega arith, c .better .ensures)
 
 returns : tie.Need-returns Inv-loop μ-loop
 returns c =
-    let s = c .before .before .before .before in
-    let a = s .args in
+    let a = c .before .before .before .before .args in
     let e : c .before .before .loop .v ≡ a .n = omega arith in
     let b : c .before .before .loop .best ≡ leastIn (a .n) (a .work .now) (a .n) = rw e at (c .before .before .loop .inv .1) in
     λ site line s from rest H. ap nextOf (none-found _ _ (a .n) (a .n) _ (omega arith) b (c .if1 .taken) ∙ chosen-is H)
 
 returns-2 : tie.Need-returns-2 Inv-loop μ-loop
 returns-2 c =
-    let s = c .before .before .before .before in
-    let a = s .args in
+    let a = c .before .before .before .before .args in
     let e : c .before .before .loop .v ≡ a .n = omega arith in
     let b : c .before .before .loop .best ≡ leastIn (a .n) (a .work .now) (a .n) = rw e at (c .before .before .loop .inv .1) in
     λ site line s from rest H. ap nextOf (one-found _ _ (a .n) (a .n) _ (omega arith) b (c .if1 .left) ∙ chosen-is H)

@@ -1,5 +1,5 @@
 use mathlib.Core.Path.{_≡_, refl, ap, _∙_}
-use Prim.Native.Nat.{ℕ, suc, _-_, _≤_}
+use Prim.Native.Nat.{suc, _-_, _≤_}
 use native.Mathlib.Omega.{arith}
 use borrow.Author.Needs.{needs}
 use Rattle.meaning.specs.Straight.{root}
@@ -40,12 +40,14 @@ less-one-requires c κs = search needs
 root-requires : tie.Need-root-requires Inv-loop μ-loop
 root-requires c κs = search needs
 
-cast-t13 : tie.Need-cast-t13 Inv-loop μ-loop
-cast-t13 c =
+small : (c : tie.After-root Inv-loop μ-loop) → c .root .result ≤ 1000000000
+small c =
     let e : c .before .less-one .result ≡ c .before .before .before .loop .best - 1 = c .before .less-one .ensures in
     let f : c .root .result ≡ root (c .before .less-one .result) = c .root .ensures in
-    let h = root-small (c .before .less-one .result) (omega arith) in
-    omega arith
+    omega (arith, root-small (c .before .less-one .result) (omega arith))
+
+cast-t13 : tie.Need-cast-t13 Inv-loop μ-loop
+cast-t13 c = omega (arith, small c)
 
 returns : tie.Need-returns Inv-loop μ-loop
 unfolding lineTo
@@ -54,9 +56,8 @@ returns c =
     let a = c .before .before .before .before .before .before .args in
     let e : c .before .less-one .result ≡ l .best - 1 = c .before .less-one .ensures in
     let f : c .root .result ≡ root (c .before .less-one .result) = c .root .ensures in
-    let h = root-small (c .before .less-one .result) (omega arith) in
     let i : l .j ≡ a .s = omega arith in
-    (f ∙ ap root (e ∙ ap (λ k. k - 1) (rw i at (l .inv .1))), omega arith)
+    (f ∙ ap root (e ∙ ap (λ k. k - 1) (rw i at (l .inv .1))), small c)
 
 pub line-from-spec : {M : Type 1} → statement M
 line-from-spec =

@@ -1,0 +1,4 @@
+mod Stores
+mod Ways
+mod Route
+mod Lines
