@@ -7,3 +7,9 @@ pub mod Writes
 -- the scans of the code: the least open node, the closest site
 mod Least
 mod Closest
+-- the tree of the open nodes: the winner of two
+mod TreeWinner
+-- who stands where
+mod TreePlaces
+-- who stands at the top
+pub mod TreeRoot
