@@ -13,3 +13,5 @@ mod TreeWinner
 mod TreePlaces
 -- who stands at the top
 pub mod TreeRoot
+-- its places settled anew
+pub mod TreeReplay

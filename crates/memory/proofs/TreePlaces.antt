@@ -5,8 +5,9 @@ use mathlib.Core.Logic.{_⊎_, inl, inr, ⊎-elim}
 use mathlib.Core.Path.{_≡_, refl, sym, ap, subst, _∙_}
 use Prim.Native.Nat.{ℕ, zero, suc, _+_, _-_, _*_, _/_, _%_, _≤_, _<_}
 use native.Mathlib.Decide.{decLt, ℕ-discrete}
+use native.Mathlib.Numerals.{add-one}
 use native.Mathlib.Omega.{arith}
-use borrow.Author.Tests.{lt-ltb, le-ltb}
+use borrow.Author.Tests.{ne-eqb, lt-ltb, le-ltb}
 use lib.Dec.{T, ltb, eqb}
 use lib.ListN.{getD}
 use Rattle.memory.specs.Memory.{keyAt}
@@ -58,6 +59,13 @@ champion-inner n w j l = rw (lt-ltb j n l)
 pub champion-leaf : (n : ℕ) (w : List ℕ) (j : ℕ) → n ≤ j → champion n w j ≡ cond (openAt n w (j - n)) (suc (j - n)) 0
 unfolding champion
 champion-leaf n w j l = rw (le-ltb j n l)
+
+-- the tests of the code at a leaf
+pub leaf-closed : (n : ℕ) (w : List ℕ) (j : ℕ) → n ≤ j → getD w j 0 ≡ 0 → 0 ≡ champion n w j
+leaf-closed n w j l e = let s : n + (j - n) ≡ j = omega arith in rw (champion-leaf n w j l, s, e)
+
+pub leaf-open : (n : ℕ) (w : List ℕ) (j : ℕ) → n ≤ j → (getD w j 0 ≡ 0 → ⊥) → j - n + 1 ≡ champion n w j
+leaf-open n w j l z = let s : n + (j - n) ≡ j = omega arith in rw (champion-leaf n w j l, s, ne-eqb (getD w j 0) 0 z) (add-one (j - n))
 
 -- where the place above i is settled, the winner of i and the one beside it stands there
 pub above-is : (n : ℕ) (w : List ℕ) (i : ℕ) → i / 2 < n → Settled n w (i / 2)

@@ -12,7 +12,8 @@ use Rattle.meaning.specs.Scan.{first}
 use Rattle.meaning.specs.Search.{over}
 use Rattle.meaning.proofs.Bools.{T-true}
 use Rattle.meaning.proofs.Scans.{IsFirst, first-is}
-use Rattle.memory.specs.Memory.{keyAt}
+use Rattle.memory.specs.Memory.{keyAt, nextOf}
+use Rattle.memory.specs.declared.Next.the-variants.{Node, Nothing}
 use Rattle.memory.specs.Tree.{openAt, champion, winner, besideOf, Tree, numberOf}
 use Rattle.memory.proofs.TreeWinner.{Leads, leads-left}
 use Rattle.memory.proofs.TreePlaces.{champion-inner, champion-leaf, above-is, Under, under}
@@ -57,6 +58,22 @@ module _ {n : ℕ} {w : List ℕ} (t : Tree n w) where
           let q = h .lower (top .node) (u .below) (u .holds) (top .least) in
           let i = top .is in
           omega arith
+
+  -- who stands at the top, as the code reads it
+  module _ (l : 1 ≤ n) (a : ℕ) (e : a ≡ champion n w 1) where
+    pub top-none : a ≡ 0 → Nothing ≡ nextOf (first (openAt n w) (keyAt n w) n)
+    top-none z = go (first (openAt n w) (keyAt n w) n) (root-is l)
+      where
+        go : (o : Option ℕ) → champion n w 1 ≡ numberOf o → Nothing ≡ nextOf o
+        go none q = refl
+        go (some v) q = absurd (omega arith)
+
+    pub top-node : (a ≡ 0 → ⊥) → Node (a - 1) ≡ nextOf (first (openAt n w) (keyAt n w) n)
+    top-node z = go (first (openAt n w) (keyAt n w) n) (root-is l)
+      where
+        go : (o : Option ℕ) → champion n w 1 ≡ numberOf o → Node (a - 1) ≡ nextOf o
+        go none q = absurd (z (e ∙ q))
+        go (some v) q = let i : a - 1 ≡ v = omega arith in ap Node i
 
 -- in a memory of zeros nobody is open, and nobody stands anywhere
 pub tree-none : (n : ℕ) (w : List ℕ) → Tree n (over (replicate (4 * n) 0) w)

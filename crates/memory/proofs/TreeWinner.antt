@@ -1,7 +1,7 @@
 -- The winner of two, under any key.
 use mathlib.Core.Bool.{Bool, true, false, cond}
 use mathlib.Core.Logic.{_⊎_, inl, inr}
-use mathlib.Core.Path.{_≡_, refl, sym, ap}
+use mathlib.Core.Path.{_≡_, refl, sym, ap, _∙_}
 use Prim.Native.Nat.{ℕ, zero, suc, _+_, _-_, _*_, _/_, _%_, _≤_, _<_}
 use native.Mathlib.Decide.{ℕ-discrete}
 use native.Mathlib.Omega.{arith}
@@ -17,22 +17,7 @@ pub record Leads (key : ℕ → ℕ) (a v : ℕ) : Type 0 where
   pub lower : key v ≤ key node → node ≤ v
 
 module _ (key : ℕ → ℕ) where
-  -- ---- the tests of the code
-
-  pub sooner-second : (x y : ℕ) → key y < key x → sooner key x y ≡ y
-  unfolding sooner
-  sooner-second x y l = rw (lt-ltb (key y) (key x) l)
-
-  pub sooner-first : (x y : ℕ) → key x < key y → sooner key x y ≡ x
-  unfolding sooner
-  sooner-first x y l = rw (le-ltb (key y) (key x) (omega arith), lt-ltb (key x) (key y) l)
-
-  pub sooner-equal : (x y : ℕ) → key x ≤ key y → key y ≤ key x → sooner key x y ≡ cond (ltb y x) y x
-  unfolding sooner
-  sooner-equal x y l m = rw (le-ltb (key y) (key x) l, le-ltb (key x) (key y) m)
-
-  -- ---- what the winner is
-
+  -- the node found, with what it goes by
   data Case (x y : ℕ) : Type 0 where
     first : key x ≤ key y → (key y ≤ key x → x ≤ y) → sooner key x y ≡ x → Case x y
     second : key y ≤ key x → (key x ≤ key y → y ≤ x) → sooner key x y ≡ y → Case x y
@@ -122,3 +107,44 @@ unfolding winner sooner
 winner-same key key' zero b p q = refl
 winner-same key key' (suc x) zero p q = refl
 winner-same key key' (suc x) (suc y) p q = rw (p x refl, q y refl)
+
+-- the tests of the code
+module _ (key : ℕ → ℕ) (a b : ℕ) where
+  pub winner-only : b ≡ 0 → a ≡ winner key a b
+  winner-only e = rw (e, winner-none)
+
+  pub winner-other : a ≡ 0 → b ≡ winner key a b
+  unfolding winner
+  winner-other e = rw e
+
+  module _ (p : a ≡ 0 → ⊥) (q : b ≡ 0 → ⊥) where
+    of-nodes : (a b : ℕ) → (a ≡ 0 → ⊥) → (b ≡ 0 → ⊥) → winner key a b ≡ suc (sooner key (a - 1) (b - 1))
+    unfolding winner
+    of-nodes zero b p q = absurd (p refl)
+    of-nodes (suc x) zero p q = absurd (q refl)
+    of-nodes (suc x) (suc y) p q =
+        let e : suc x - 1 ≡ x = omega arith in
+        let f : suc y - 1 ≡ y = omega arith in
+        rw (e, f)
+
+    -- the node c, found, as it stands
+    found : (c : ℕ) → (c ≡ 0 → ⊥) → sooner key (a - 1) (b - 1) ≡ c - 1 → c ≡ winner key a b
+    found c z e = let s : c ≡ suc (c - 1) = omega arith in s ∙ ap suc (sym e) ∙ sym (of-nodes a b p q)
+
+    pub winner-second : key (b - 1) < key (a - 1) → b ≡ winner key a b
+    unfolding sooner
+    winner-second l = found b q (rw (lt-ltb (key (b - 1)) (key (a - 1)) l))
+
+    pub winner-first : key (a - 1) < key (b - 1) → a ≡ winner key a b
+    unfolding sooner
+    winner-first l = found a p (rw (le-ltb (key (b - 1)) (key (a - 1)) (omega arith), lt-ltb (key (a - 1)) (key (b - 1)) l))
+
+    pub winner-lower : key (a - 1) ≡ key (b - 1) → b < a → b ≡ winner key a b
+    unfolding sooner
+    winner-lower e l =
+        found b q (rw (le-ltb (key (b - 1)) (key (a - 1)) (omega arith), le-ltb (key (a - 1)) (key (b - 1)) (omega arith), lt-ltb (b - 1) (a - 1) (omega arith)))
+
+    pub winner-kept : key (a - 1) ≡ key (b - 1) → a ≤ b → a ≡ winner key a b
+    unfolding sooner
+    winner-kept e l =
+        found a p (rw (le-ltb (key (b - 1)) (key (a - 1)) (omega arith), le-ltb (key (a - 1)) (key (b - 1)) (omega arith), le-ltb (b - 1) (a - 1) (omega arith)))

@@ -1,6 +1,6 @@
 -- The open nodes in a winner tree over n leaves, kept in the last quarter of the work memory. Place j, from 1 to n - 1, is entry n + n + n + j, and the winner of
 -- places 2j and 2j + 1 stands there; place n + v is the leaf of node v. Who stands at a place is 0 for nobody, or one more than the node.
-use mathlib.Core.Bool.{Bool, not, cond}
+use mathlib.Core.Bool.{Bool, false, not, cond}
 use mathlib.Core.List.{List}
 use mathlib.Core.Option.{Option, none, some}
 use mathlib.Core.Path.{_≡_}
@@ -64,6 +64,10 @@ pub record Without (n : ℕ) (w : List ℕ) (v j : ℕ) : Type 0 where
 pub record But (n : ℕ) (w : List ℕ) (v i : ℕ) : Type 0 where
   pub small : (j : ℕ) → 1 ≤ j → j < n → getD w (n + n + n + j) 0 ≤ n
   pub settled : (j : ℕ) → 1 ≤ j → j < n → (j ≡ i → ⊥) → (Up (i / 2) j → Without n w v j) → Settled n w j
+
+-- nothing changes from place i upwards, where `best` is to stand: it stands there, and isn't v
+unfoldable pub stays : ℕ → List ℕ → ℕ → ℕ → ℕ → Bool
+stays n w v i best = cond (eqb best (suc v)) false (eqb (getD w (n + n + n + i) 0) best)
 
 -- w' is w but for the places of the tree
 pub record Outside (n : ℕ) (w w' : List ℕ) : Type 0 where
