@@ -13,7 +13,7 @@ use lib.ListN.{getD}
 use Rattle.memory.specs.Memory.{keyAt}
 use Rattle.memory.specs.Tree.{openAt, champion, winner, besideOf, Settled, Tree, Up, Stands}
 use Rattle.memory.proofs.Least.{above-zero}
-use Rattle.memory.proofs.TreeWinner.{winner-either, pair-is}
+use Rattle.memory.proofs.TreeWinner.{winner-sym, winner-either}
 
 -- ---- above
 
@@ -49,6 +49,26 @@ beside-off i j l u v =
     (λ z. let h = up-far z (λ e. omega arith) in omega arith)
     (λ z. let h = up-far z (λ e. omega arith) in omega arith)
     (up-either u v)
+
+pub up-strict : {i j : ℕ} → Up i j → (j ≡ i → ⊥) → Up (i / 2) j
+up-strict Up.here z = absurd (z refl)
+up-strict (Up.up u) z = u
+
+-- the two places below the one above i are i and the one beside it
+sides : (i : ℕ) → ((2 * (i / 2) ≡ i) × (2 * (i / 2) + 1 ≡ besideOf i)) ⊎ ((2 * (i / 2) ≡ besideOf i) × (2 * (i / 2) + 1 ≡ i))
+sides i = go (ℕ-discrete (i % 2) 0)
+  where
+    go : Dec (i % 2 ≡ 0) → ((2 * (i / 2) ≡ i) × (2 * (i / 2) + 1 ≡ besideOf i)) ⊎ ((2 * (i / 2) ≡ besideOf i) × (2 * (i / 2) + 1 ≡ i))
+    go (yes z) = inl (omega arith)
+    go (no z) = inr (omega arith)
+
+pub both-below : (P : ℕ → Type 0) (i : ℕ) → P i → P (besideOf i) → P (2 * (i / 2)) × P (2 * (i / 2) + 1)
+both-below P i p q = ⊎-elim (λ e. (subst P (sym (e .0)) p, subst P (sym (e .1)) q)) (λ e. (subst P (sym (e .0)) q, subst P (sym (e .1)) p)) (sides i)
+
+pub pair-is : (key c : ℕ → ℕ) (i : ℕ) → winner key (c (2 * (i / 2))) (c (2 * (i / 2) + 1)) ≡ winner key (c i) (c (besideOf i))
+pair-is key c i =
+    ⊎-elim (λ e. ap (λ x. winner key (c x) (c (2 * (i / 2) + 1))) (e .0) ∙ ap (λ x. winner key (c i) (c x)) (e .1))
+    (λ e. winner-sym key (c (2 * (i / 2))) (c (2 * (i / 2) + 1)) ∙ ap (λ x. winner key (c x) (c (2 * (i / 2)))) (e .1) ∙ ap (λ x. winner key (c i) (c x)) (e .0)) (sides i)
 
 -- ---- who stands at a place
 
@@ -111,3 +131,23 @@ under n w (suc f) j x l s p h e = go (decLt j n) (λ k. under n w f k x)
         (λ q. child (2 * j + 1) (omega arith) z (sym q ∙ c) (ih (2 * j + 1)))
         (winner-either (keyAt n w) (champion n w (2 * j)) (champion n w (2 * j + 1)))
     go (no z) ih = leaf (openAt n w (j - n)) refl (omega arith) (sym (champion-leaf n w j (omega arith)) ∙ e)
+
+-- ---- nobody, or an open node
+
+pub stands-none : (n : ℕ) (w : List ℕ) → Stands n w 0
+stands-none n w = record { small = omega arith; rival = λ p. absurd (omega arith) }
+
+pub stands-open : (n : ℕ) (w : List ℕ) (x : ℕ) → x < n → T (openAt n w x) → Stands n w (suc x)
+stands-open n w x l o =
+    let z : suc x - 1 ≡ x = omega arith in
+    record { small = omega arith; rival = λ p. rw z (above-zero (getD w (n + x) 0) o) }
+
+pub stands-winner : (n : ℕ) (w : List ℕ) (key : ℕ → ℕ) (a b : ℕ) → Stands n w a → Stands n w b → Stands n w (winner key a b)
+stands-winner n w key a b p q = ⊎-elim (λ e. rw e p) (λ e. rw e q) (winner-either key a b)
+
+pub sound-stands : (n : ℕ) (w : List ℕ) (j : ℕ) → Sound n w j → 1 ≤ j → j < n + n → Stands n w (champion n w j)
+sound-stands n w j s p h = go (champion n w j) refl
+  where
+    go : (a : ℕ) → champion n w j ≡ a → Stands n w a
+    go zero e = stands-none n w
+    go (suc x) e = let u = under n w (n + n) j x (omega arith) s p h e in stands-open n w x (u .below) (u .holds)

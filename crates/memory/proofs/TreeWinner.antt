@@ -2,12 +2,11 @@
 use mathlib.Core.Bool.{Bool, true, false, cond}
 use mathlib.Core.Logic.{_⊎_, inl, inr}
 use mathlib.Core.Path.{_≡_, refl, sym, ap, _∙_}
-use Prim.Native.Nat.{ℕ, zero, suc, _+_, _-_, _*_, _/_, _%_, _≤_, _<_}
-use native.Mathlib.Decide.{ℕ-discrete}
+use Prim.Native.Nat.{ℕ, zero, suc, _-_, _≤_, _<_}
 use native.Mathlib.Omega.{arith}
 use borrow.Author.Tests.{ltb-true, ltb-false, lt-ltb, le-ltb}
 use lib.Dec.{ltb}
-use Rattle.memory.specs.Tree.{sooner, winner, besideOf}
+use Rattle.memory.specs.Tree.{sooner, winner}
 
 -- a is a node that goes no later than v
 pub record Leads (key : ℕ → ℕ) (a v : ℕ) : Type 0 where
@@ -85,20 +84,6 @@ module _ (key : ℕ → ℕ) where
 
   pub leads-right : (a b v : ℕ) → Leads key b v → Leads key (winner key a b) v
   leads-right a b v h = rw (winner-sym a b) (leads-left b a v h)
-
-  -- the two places below the one above i are i and the one beside it
-  pub pair-is : (c : ℕ → ℕ) (i : ℕ) → winner key (c (2 * (i / 2))) (c (2 * (i / 2) + 1)) ≡ winner key (c i) (c (besideOf i))
-  pair-is c i = go (ℕ-discrete (i % 2) 0)
-    where
-      go : Dec (i % 2 ≡ 0) → winner key (c (2 * (i / 2))) (c (2 * (i / 2) + 1)) ≡ winner key (c i) (c (besideOf i))
-      go (yes z) =
-          let e : 2 * (i / 2) ≡ i = omega arith in
-          let f : besideOf i ≡ i + 1 = omega arith in
-          rw (e, f)
-      go (no z) =
-          let e : 2 * (i / 2) + 1 ≡ i = omega arith in
-          let f : besideOf i ≡ 2 * (i / 2) = omega arith in
-          rw (e, f) (winner-sym (c (2 * (i / 2))) (c i))
 
 -- the winner depends only on the keys of the two
 pub winner-same : (key key' : ℕ → ℕ) (a b : ℕ) → ((x : ℕ) → a ≡ suc x → key x ≡ key' x) → ((y : ℕ) → b ≡ suc y → key y ≡ key' y)

@@ -7,6 +7,7 @@ ghost use Rattle.memory.specs.Memory.{isTaken, keyAt, leastIn, Chosen, S
 pub use estimate::aim;
 use straight::Line;
 use straight::Road;
+pub use tree::build;
 pub use tree::first_open;
 pub use tree::replay;
 
