@@ -7,8 +7,12 @@ ghost use Rattle.memory.specs.Memory.{isTaken, keyAt, leastIn, Chosen, S
 pub use estimate::aim;
 use straight::Line;
 use straight::Road;
+pub use tree::build;
+pub use tree::first_open;
+pub use tree::replay;
 
 mod estimate;
+mod tree;
 
 // The open node to be taken next.
 pub enum Next {
