@@ -12,7 +12,6 @@ use lib.Dec.{T, ltb, eqb}
 use lib.ListN.{getD}
 use Rattle.memory.specs.Memory.{keyAt}
 use Rattle.memory.specs.Tree.{openAt, champion, winner, besideOf, Settled, Tree, Up, Stands}
-use Rattle.memory.proofs.Least.{above-zero}
 use Rattle.memory.proofs.TreeWinner.{winner-sym, winner-either}
 
 -- ---- above
@@ -133,6 +132,10 @@ under n w (suc f) j x l s p h e = go (decLt j n) (λ k. under n w f k x)
     go (no z) ih = leaf (openAt n w (j - n)) refl (omega arith) (sym (champion-leaf n w j (omega arith)) ∙ e)
 
 -- ---- nobody, or an open node
+
+above-zero : (x : ℕ) → T (not (eqb x 0)) → 0 < x
+above-zero zero t = absurd t
+above-zero (suc x) t = omega arith
 
 pub stands-none : (n : ℕ) (w : List ℕ) → Stands n w 0
 stands-none n w = record { small = omega arith; rival = λ p. absurd (omega arith) }

@@ -84,21 +84,6 @@ pub fn first_open(work: &[u32], n: usize) -> Next
     Next::Node(top - 1)
 }
 
-// Every place is settled, whatever stood there.
-pub fn build(work: &mut [u32], n: usize)
-    requires { ⌜ (4 * n ≤ length (now work)) × (n ≤ 100000) ⌝ }
-    ensures { λ r. ⌜ Tree n (now (work .exit)) ⌝ }
-    ensures { λ r. ⌜ Outside n (now (work .entry)) (now (work .exit)) ⌝ }
-{
-    let mut i = n;
-    while 1 < i {
-        i -= 1;
-        let left = champion(work, n, 2 * i);
-        let best = meet(work, n, 2 * i, left);
-        work[n + n + n + i] = best as u32;
-    }
-}
-
 // The places above the leaf of node v, whose entries were written, are settled anew, as far up as anything changes.
 pub fn replay(work: &mut [u32], n: usize, v: usize)
     requires { ⌜ (4 * n ≤ length (now work)) × ((v < n) × (n ≤ 100000)) ⌝ }
