@@ -7,11 +7,11 @@ pub mod Writes
 -- the scans of the code: the least open node, the closest site
 mod Least
 mod Closest
--- the tree of the open nodes: who stands at its top, and what writes change
+-- the tree of the open nodes: who stands where, who at its top, and what writes change
+pub mod TreePlaces
 pub mod TreeRoot
 pub mod TreeChanges
--- the winner of two, who stands where, and the places settled, on one path or all
+-- the winner of two, and the places settled, on one path or all
 mod TreeWinner
-mod TreePlaces
 mod TreeReplay
 mod TreeBuild

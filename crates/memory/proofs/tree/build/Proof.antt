@@ -71,4 +71,24 @@ returns : tie.Need-returns Inv-loop μ-loop
 returns c = let g = c .before .loop .inv in (built-all g (c .loop-test .left), g .outside)
 
 pub build-spec : {M : Type 1} → statement M
-build-spec = tie.close (tie.spec Inv-loop μ-loop loop-holds sub-i mul-champion champion-requires mul-meet meet-requires cast-work add-work add-work-2 add-work-3 mul-work slice-write-work loop-less loop-again same-length returns)
+build-spec =
+    tie.close
+    (tie.spec
+    Inv-loop
+    μ-loop
+    loop-holds
+    sub-i
+    mul-champion
+    champion-requires
+    mul-meet
+    meet-requires
+    cast-work
+    add-work
+    add-work-2
+    add-work-3
+    mul-work
+    slice-write-work
+    loop-less
+    loop-again
+    same-length
+    returns)
