@@ -6,10 +6,10 @@ pub mod Lines
 pub mod Writes
 -- the scan of the code: the closest site
 mod Closest
--- the tree of the open nodes: who stands at its top, and what writes change
+-- the tree of the open nodes: who stands where, who at its top, and what writes change
+pub mod TreePlaces
 pub mod TreeRoot
 pub mod TreeChanges
--- the winner of two, who stands where, and the places of one path settled
+-- the winner of two, and the places of one path settled
 mod TreeWinner
-mod TreePlaces
 mod TreeReplay

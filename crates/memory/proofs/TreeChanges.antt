@@ -5,7 +5,7 @@ use mathlib.Core.Path.{_≡_, refl, sym, ap, _∙_}
 use Prim.Native.Nat.{ℕ, zero, suc, _+_, _-_, _*_, _/_, _≤_, _<_}
 use native.Mathlib.Decide.{decLt}
 use native.Mathlib.Omega.{arith}
-use lib.ListN.{length, getD, set, drop, length-set}
+use lib.ListN.{length, getD, set, length-set}
 use lib.Seq.{getD-set-same, getD-set-other, drop-set-lt}
 use Rattle.meaning.specs.Taking.{State}
 use Rattle.memory.specs.Memory.{Holds, keyAt}
@@ -41,12 +41,13 @@ module _ {n v : ℕ} {w w' : List ℕ} (E : Elsewhere n v w w') (l : v < n) (a :
     places = λ j h. getD-set-other w' (n + v) (n + n + n + j) a 0 (λ e. omega arith) ∙ E .places j h;
   }
 
-  pub else-lead : Elsewhere n v w (set w' (n + n + v) a)
-  else-lead = record {
-    lens = λ x h z. getD-set-other w' (n + n + v) x a 0 (λ e. omega arith) ∙ E .lens x h z;
-    rivals = λ x h z. getD-set-other w' (n + n + v) (n + x) a 0 (λ e. omega arith) ∙ E .rivals x h z;
-    places = λ j h. getD-set-other w' (n + n + v) (n + n + n + j) a 0 (λ e. omega arith) ∙ E .places j h;
-  }
+-- the node before h on the route is none of what nodes are compared by
+pub else-lead : {n v : ℕ} {w w' : List ℕ} → Elsewhere n v w w' → (h a : ℕ) → h < n → Elsewhere n v w (set w' (n + n + h) a)
+else-lead {n} {v} {w} {w'} E h a l = record {
+  lens = λ x m z. getD-set-other w' (n + n + h) x a 0 (λ e. omega arith) ∙ E .lens x m z;
+  rivals = λ x m z. getD-set-other w' (n + n + h) (n + x) a 0 (λ e. omega arith) ∙ E .rivals x m z;
+  places = λ j m. getD-set-other w' (n + n + h) (n + n + n + j) a 0 (λ e. omega arith) ∙ E .places j m;
+}
 
 module _ {n v : ℕ} {w w' : List ℕ} (t : Tree n w) (E : Elsewhere n v w w') where
   else-champion : (j : ℕ) → j < n + n → (j ≡ n + v → ⊥) → champion n w' j ≡ champion n w j
@@ -94,32 +95,23 @@ module _ {n v : ℕ} {w w' : List ℕ} (t : Tree n w) (E : Elsewhere n v w w') w
               let o : x ≡ v → ⊥ = λ q. z (e ∙ ap suc q) in
               rw (E .lens x l o, E .rivals x l o)
 
--- ---- writes that the tree doesn't read
-
--- the node before h on the route is none of what nodes are compared by
-pub tree-lead : {n : ℕ} {w : List ℕ} (h a : ℕ) → h < n → Tree n w → Tree n (set w (n + n + h) a)
-tree-lead {n} {w} h a l t = record {
-  settled = λ j p m. record {
-    right =
-        other (n + n + n + j) (λ e. omega arith) ∙ t .settled j p m .right
-        ∙ same-meeting n w (set w (n + n + h) a) j (same (2 * j) (omega arith)) (same (2 * j + 1) (omega arith))
-        (λ x e. key x (tree-under t (2 * j) x (omega arith) (omega arith) e .below)) (λ x e. key x (tree-under t (2 * j + 1) x (omega arith) (omega arith) e .below));
-  };
-}
+-- n is no node: nothing changes that the tree reads
+pub tree-kept : {n : ℕ} {w w' : List ℕ} → Tree n w → Elsewhere n n w w' → Tree n w'
+tree-kept {n} {w} {w'} t E = record { settled = settled }
   where
-    other : (i : ℕ) → (i ≡ n + n + h → ⊥) → getD (set w (n + n + h) a) i 0 ≡ getD w i 0
-    other i z = getD-set-other w (n + n + h) i a 0 z
+    key : (k x : ℕ) → 1 ≤ k → k < n + n → champion n w k ≡ suc x → keyAt n w' x ≡ keyAt n w x
+    key k x p h e = let l = tree-under t k x p h e .below in rw (E .lens x l (λ z. omega arith), E .rivals x l (λ z. omega arith))
 
-    key : (x : ℕ) → x < n → keyAt n (set w (n + n + h) a) x ≡ keyAt n w x
-    key x m = rw (other x (λ e. omega arith), other (n + x) (λ e. omega arith))
+    settled : (j : ℕ) → 1 ≤ j → j < n → Settled n w' j
+    settled j p h = record {
+      right =
+          E .places j h ∙ t .settled j p h .right
+          ∙ same-meeting n w w' j (else-champion t E (2 * j) (omega arith) (λ e. omega arith)) (else-champion t E (2 * j + 1) (omega arith) (λ e. omega arith))
+          (λ x. key (2 * j) x (omega arith) (omega arith)) (λ x. key (2 * j + 1) x (omega arith) (omega arith));
+    }
 
-    same : (j : ℕ) → j < n + n → champion n (set w (n + n + h) a) j ≡ champion n w j
-    same j m = go (decLt j n)
-      where
-        go : Dec (j < n) → champion n (set w (n + n + h) a) j ≡ champion n w j
-        go (yes p) = champion-inner n (set w (n + n + h) a) j p ∙ other (n + n + n + j) (λ e. omega arith) ∙ sym (champion-inner n w j p)
-        go (no p) =
-            champion-leaf n (set w (n + n + h) a) j (omega arith) ∙ rw (other (n + (j - n)) (λ e. omega arith)) (sym (champion-leaf n w j (omega arith)))
+pub tree-lead : {n : ℕ} {w : List ℕ} (h a : ℕ) → h < n → Tree n w → Tree n (set w (n + n + h) a)
+tree-lead {n} {w} h a l t = tree-kept t (else-lead (else-none n n w) h a l)
 
 -- ---- writes of places
 

@@ -8,10 +8,10 @@ use native.Mathlib.Decide.{decLt, ℕ-discrete}
 use native.Mathlib.Numerals.{add-one}
 use native.Mathlib.Omega.{arith}
 use borrow.Author.Tests.{ne-eqb, lt-ltb, le-ltb}
-use lib.Dec.{T, ltb, eqb}
+use lib.Dec.{T, eqb}
 use lib.ListN.{getD}
 use Rattle.memory.specs.Memory.{keyAt}
-use Rattle.memory.specs.Tree.{openAt, champion, winner, besideOf, Settled, Tree, Up, Stands}
+use Rattle.memory.specs.Tree.{openAt, champion, winner, besideOf, Settled, Up, Stands}
 use Rattle.memory.proofs.TreeWinner.{winner-sym, winner-either}
 
 -- ---- above

@@ -43,4 +43,18 @@ returns-3 : tie.Need-returns-3
 returns-3 c = leaf-open _ _ _ (c .before .before .if1 .left) (c .if2 .left)
 
 pub champion-spec : {M : Type 1} → statement M
-champion-spec = tie.close (tie.spec add-result add-result-2 add-result-3 mul-result shared-slice-read-result cast-result returns mul-if2 shared-slice-read-if2 returns-2 add-result-4 returns-3)
+champion-spec =
+    tie.close
+    (tie.spec
+    add-result
+    add-result-2
+    add-result-3
+    mul-result
+    shared-slice-read-result
+    cast-result
+    returns
+    mul-if2
+    shared-slice-read-if2
+    returns-2
+    add-result-4
+    returns-3)

@@ -25,4 +25,12 @@ returns : tie.Need-returns
 returns c = let s = c .before .before .before in c .winner .ensures ∙ ap (λ b. winner (keyAt (s .args .n) (s .args .work .now)) (s .args .best) b) (c .before .champion .ensures)
 
 pub meet-spec : {M : Type 1} → statement M
-meet-spec = tie.close (tie.spec add-champion mul-champion sub-champion champion-requires winner-requires returns)
+meet-spec =
+    tie.close
+    (tie.spec
+    add-champion
+    mul-champion
+    sub-champion
+    champion-requires
+    winner-requires
+    returns)

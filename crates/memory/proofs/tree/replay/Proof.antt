@@ -1,5 +1,5 @@
 use mathlib.Core.Path.{sym, _∙_}
-use Prim.Native.Nat.{_+_, _/_, _≤_}
+use Prim.Native.Nat.{_≤_}
 use native.Mathlib.Omega.{arith}
 use borrow.Author.Needs.{needs}
 use Rattle.memory.proofs.TreeReplay.{Going, going-starts, going-beside, going-small, going-on, going-stops, going-top, stays-is}
@@ -79,4 +79,25 @@ returns-2 : tie.Need-returns-2 Inv-loop μ-loop
 returns-2 c = let g = c .before .loop .inv in (going-top g (c .loop-test .left), g .outside)
 
 pub replay-spec : {M : Type 1} → statement M
-replay-spec = tie.close (tie.spec Inv-loop μ-loop add-i champion-requires loop-holds meet-requires stays-requires same-length returns cast-work add-work add-work-2 add-work-3 mul-work slice-write-work loop-less loop-again same-length-2 returns-2)
+replay-spec =
+    tie.close
+    (tie.spec
+    Inv-loop
+    μ-loop
+    add-i
+    champion-requires
+    loop-holds
+    meet-requires
+    stays-requires
+    same-length
+    returns
+    cast-work
+    add-work
+    add-work-2
+    add-work-3
+    mul-work
+    slice-write-work
+    loop-less
+    loop-again
+    same-length-2
+    returns-2)

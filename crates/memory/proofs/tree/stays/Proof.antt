@@ -37,4 +37,15 @@ unfolding stays
 returns-2 c = rw (ne-eqb (c .before .before .args .best) (suc (c .before .before .args .v)) (λ e. c .before .if1 .left (omega arith)))
 
 pub stays-spec : {M : Type 1} → statement M
-stays-spec = tie.close (tie.spec add-if1 returns add-result add-result-2 add-result-3 mul-result shared-slice-read-result cast-result returns-2)
+stays-spec =
+    tie.close
+    (tie.spec
+    add-if1
+    returns
+    add-result
+    add-result-2
+    add-result-3
+    mul-result
+    shared-slice-read-result
+    cast-result
+    returns-2)

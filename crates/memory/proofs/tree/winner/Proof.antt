@@ -58,4 +58,16 @@ returns-6 c =
     winner-kept _ _ _ (c .before .before .before .before .before .if2 .left) (c .before .before .before .before .before .before .if1 .left) (omega (arith, c .before .before .if3 .left, c .before .if4 .left)) (c .if5 .left)
 
 pub winner-spec : {M : Type 1} → statement M
-winner-spec = tie.close (tie.spec returns returns-2 sub-key key-requires sub-key-2 key-requires-2 returns-3 returns-4 returns-5 returns-6)
+winner-spec =
+    tie.close
+    (tie.spec
+    returns
+    returns-2
+    sub-key
+    key-requires
+    sub-key-2
+    key-requires-2
+    returns-3
+    returns-4
+    returns-5
+    returns-6)
