@@ -9,7 +9,7 @@ use lib.ListN.{length, getD, set, length-set}
 use lib.Seq.{getD-set-same, getD-set-other, drop-set-lt}
 use Rattle.meaning.specs.Taking.{State}
 use Rattle.memory.specs.Memory.{Holds, keyAt}
-use Rattle.memory.specs.Tree.{openAt, champion, winner, Settled, Tree, Elsewhere, Up, Without, But, Outside, Stands}
+use Rattle.memory.specs.Tree.{champion, winner, Settled, Tree, Elsewhere, Up, Without, But, Outside, Stands}
 use Rattle.memory.proofs.TreeWinner.{winner-same}
 use Rattle.memory.proofs.TreePlaces.{up-trans, up-half, up-strict, champion-inner, champion-leaf}
 use Rattle.memory.proofs.TreeRoot.{tree-under}
@@ -128,9 +128,6 @@ outside-set {n} {w} {w'} k a l h O = record {
 module _ {n : ℕ} {w w' : List ℕ} (O : Outside n w w') where
   pub outside-key : (x : ℕ) → x < n → keyAt n w' x ≡ keyAt n w x
   outside-key x l = rw (O .low x (omega arith), O .low (n + x) (omega arith))
-
-  pub outside-open : (x : ℕ) → x < n → openAt n w' x ≡ openAt n w x
-  outside-open x l = rw (O .low (n + x) (omega arith))
 
   pub outside-stands : (a : ℕ) → Stands n w a → Stands n w' a
   outside-stands a s = record { small = s .small; rival = λ p. let l = s .small in rw (O .low (n + (a - 1)) (omega arith)) (s .rival p) }

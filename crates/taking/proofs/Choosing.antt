@@ -3,7 +3,7 @@ use mathlib.Core.Bool.{Bool, true, false, not, _&&_}
 use mathlib.Core.List.{List}
 use mathlib.Core.Option.{Option, none, some}
 use mathlib.Core.Path.{_≡_, refl, sym, ap, _∙_}
-use Prim.Native.Nat.{ℕ, suc, _+_, _*_, _≤_, _<_}
+use Prim.Native.Nat.{ℕ, _+_, _≤_, _<_}
 use native.Mathlib.Decide.{decLt}
 use native.Mathlib.Omega.{arith}
 use borrow.Author.Tests.{eq-eqb, ne-eqb, lt-ltb, le-ltb}
@@ -12,7 +12,7 @@ use lib.ListN.{length, getD, set}
 use lib.Seq.{getD-set-same, getD-set-other}
 use Rattle.meaning.specs.Scan.{first}
 use Rattle.meaning.specs.Region.{Tables, regionOf, isSite}
-use Rattle.meaning.specs.Taking.{State, isOpen, aimed, lenAt, bit, key, keyIn, choose}
+use Rattle.meaning.specs.Taking.{State, isOpen, aimed, keyIn, choose}
 use Rattle.meaning.specs.Search.{aimOf}
 use Rattle.meaning.proofs.Bools.{T-false}
 use Rattle.meaning.proofs.Counting.{count, count-more}

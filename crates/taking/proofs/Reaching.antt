@@ -7,7 +7,7 @@ use native.Mathlib.Numerals.{add-one}
 use native.Mathlib.Omega.{arith}
 use borrow.Author.Tests.{eq-eqb, ne-eqb, lt-ltb, le-ltb}
 use lib.Dec.{T, eqb, eqb→eq, ltb}
-use lib.ListN.{length, getD, set}
+use lib.ListN.{getD, set}
 use lib.Seq.{set-getD}
 use Rattle.meaning.specs.Region.{Tables, regionOf, isSite}
 use Rattle.meaning.specs.Taking.{State, taken, isOpen, aimed, lower}
@@ -117,10 +117,10 @@ longer n u h at w l z g site line s from rest p H =
 -- ---- in the tree
 
 pub shorten-tree : (n u h at : ℕ) (w : List ℕ) → h < n → Tree n w → But n (set (set w h at) (n + n + h) (u + 1)) h ((n + h) / 2)
-shorten-tree n u h at w l t = tree-changed t (else-lead (else-length (else-none n h w) l at) l (u + 1))
+shorten-tree n u h at w l t = tree-changed t (else-lead (else-length (else-none n h w) l at) h (u + 1) l)
 
 pub open-tree : (n u h at r : ℕ) (w : List ℕ) → h < n → Tree n w → But n (set (set (set w h at) (n + h) r) (n + n + h) (u + 1)) h ((n + h) / 2)
-open-tree n u h at r w l t = tree-changed t (else-lead (else-rival (else-length (else-none n h w) l at) l r) l (u + 1))
+open-tree n u h at r w l t = tree-changed t (else-lead (else-rival (else-length (else-none n h w) l at) l r) h (u + 1) l)
 
 -- ---- with the estimates
 

@@ -12,7 +12,7 @@ use Rattle.meaning.specs.Search.{aimOf}
 use Rattle.memory.specs.declared.Next.{Next}
 use Rattle.memory.specs.Memory.{Holds, rivalOf, nextOf}
 use Rattle.memory.specs.Aim.{siteIn, lineTo}
-use Rattle.memory.specs.Tree.{Tree, Outside}
+use Rattle.memory.specs.Tree.{Outside}
 use Rattle.taking.specs.Parents.{parentAt, parentsTo, parents1}
 
 -- tables of which only the points and the sites are known; the arcs don't show in what the memory holds

@@ -221,14 +221,7 @@ fn fresh(
 
 // The open node to be taken next. Taking sites only raises estimates, so one made earlier is at most the present one: only of the node at the tree's top it is made
 // anew.
-pub fn choose(
-    xs: &[i32],
-    ys: &[i32],
-    sites: &[u16],
-    n: usize,
-    s: usize,
-    work: &mut [u32],
-) -> Next
+pub fn choose(xs: &[i32], ys: &[i32], sites: &[u16], n: usize, s: usize, work: &mut [u32]) -> Next
     requires { ⌜ (1 ≤ n) × (n ≤ 1024) ⌝ }
     requires { ⌜ Ground (now xs) (now ys) (now sites) n s ⌝ }
     requires { ⌜ Tree n (now work) ⌝ }

@@ -1,7 +1,6 @@
 -- The loop's invariant: the same state is held. Each turn one node fewer is held under an estimate that isn't its present one.
 use borrow.Author.Needs.{needs}
-use mathlib.Core.Path.{_≡_, sym, _∙_}
-use native.Mathlib.Omega.{arith}
+use mathlib.Core.Path.{sym, _∙_}
 use Rattle.meaning.specs.Region.{Tables}
 use Rattle.meaning.proofs.Counting.{count}
 use Rattle.meaning.proofs.Scans.{First}
