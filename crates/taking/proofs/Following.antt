@@ -35,8 +35,8 @@ none-taken n q w w₁ room l e =
     unseen-not-taken n q w₁ (rw e (H .lens q l ∙ getD-replicate n q 0 0 l))
 
 -- the query node is opened in a memory of zeros
-pub start-tree : (n q r : ℕ) (w w₁ : List ℕ) → q < n → w₁ ≡ over (replicate (4 * n) 0) w → But n (set (set w₁ q 1) (n + q) r) q ((n + q) / 2)
-start-tree n q r w w₁ l e = tree-changed (rw e (tree-none n w)) (else-rival (else-length (else-none n q w₁) l 1) l r)
+pub start-tree : (n q a r : ℕ) (w w₁ : List ℕ) → q < n → w₁ ≡ over (replicate (4 * n) 0) w → But n (set (set w₁ q a) (n + q) r) q ((n + q) / 2)
+start-tree n q a r w w₁ l e = tree-changed (rw e (tree-none n w)) (else-rival (else-length (else-none n q w₁) l a) l r)
 
 pub started : (t : Tables) (q : ℕ) (w w₁ : List ℕ) → 4 * t .n ≤ length w → q < t .n → Ground (t .xs) (t .ys) (t .sites) (t .n) (t .s) → w₁ ≡ over (replicate (4 * t .n) 0) w
     → (r : ℕ) → r ≡ rivalAt t w₁ q → (w' : List ℕ) → Outside (t .n) (set (set w₁ q 1) (t .n + q) r) w'

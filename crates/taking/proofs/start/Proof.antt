@@ -35,7 +35,7 @@ replay-requires : tie.Need-replay-requires
 replay-requires c κs =
     let start = c .before .before .before .before .before .before .before .before .before in
     let clear = c .before .before .before .before .before .clear in
-    ((simp length-set (omega (arith, clear .kept .0, start .pre .0)), (start .pre .0 .1 .1, omega (arith, start .pre .0))), start-tree (start .args .n) (start .args .q) (c .before .aim .result) (start .args .work .now) (clear .last .0) (start .pre .0 .1 .1) (clear .ensures))
+    ((simp length-set (omega (arith, clear .kept .0, start .pre .0)), (start .pre .0 .1 .1, omega (arith, start .pre .0))), start-tree (start .args .n) (start .args .q) _ (c .before .aim .result) (start .args .work .now) (clear .last .0) (start .pre .0 .1 .1) (clear .ensures))
 
 same-length : tie.Need-same-length
 same-length c = c .before .before .replay .kept .0 ∙ simp length-set (c .before .before .before .before .before .before .before .before .clear .kept .0)
