@@ -1,41 +1,15 @@
 -- What the entries of a memory say of the state that it holds.
-use mathlib.Core.Path.{_≡_, refl, ap}
+use mathlib.Core.Path.{_≡_, refl}
 use mathlib.Core.Bool.{Bool, true, false, not, cond, _&&_}
 use mathlib.Core.List.{List}
-use mathlib.Core.Option.{Option, none, some}
 use Prim.Native.Nat.{ℕ, zero, suc, _+_, _-_, _*_, _/_, _%_, _<_}
 use native.Mathlib.Omega.{arith}
 use borrow.Author.Tests.{lt-ltb}
 use lib.Dec.{T, eqb, eqb·suc-zero, ltb}
 use lib.ListN.{getD}
-use Rattle.meaning.specs.Scan.{first}
 use Rattle.meaning.specs.Taking.{State, taken, isOpen, lenAt, bit, key}
 use Rattle.meaning.proofs.Bools.{T-true}
-use Rattle.meaning.proofs.Scans.{IsFirst, first-is}
 use Rattle.memory.specs.Memory.{Holds, rivalOf, isTaken, keyAt}
-
--- ---- a scan depends only on the test and, where it passes, on the key
-
-first-unique : (ok ok' : ℕ → Bool) (k k' : ℕ → ℕ) (n : ℕ) → ((i : ℕ) → i < n → ok i ≡ ok' i) → ((i : ℕ) → i < n → T (ok' i) → k i ≡ k' i)
-    → (a b : Option ℕ) → IsFirst ok k n a → IsFirst ok' k' n b → a ≡ b
-first-unique ok ok' k k' n same keys none none f g = refl
-first-unique ok ok' k k' n same keys none (some v) f g = absurd (f v (g .below) (rw (same v (g .below)) (g .holds)))
-first-unique ok ok' k k' n same keys (some u) none f g = absurd (g u (f .below) (rw (same u (f .below)) at (f .holds)))
-first-unique ok ok' k k' n same keys (some u) (some v) f g =
-    let tu : T (ok' u) = rw (same u (f .below)) at (f .holds) in
-    let tv : T (ok v) = rw (same v (g .below)) (g .holds) in
-    let eu = keys u (f .below) tu in
-    let ev = keys v (g .below) (g .holds) in
-    let l1 = f .least v (g .below) tv in
-    let l2 = g .least u (f .below) tu in
-    let m1 = f .lower v (g .below) tv (omega arith) in
-    let m2 = g .lower u (f .below) tu (omega arith) in
-    let e : u ≡ v = omega arith in
-    ap some e
-
-pub first-same : (ok ok' : ℕ → Bool) (k k' : ℕ → ℕ) (n : ℕ) → ((i : ℕ) → i < n → ok i ≡ ok' i) → ((i : ℕ) → i < n → T (ok' i) → k i ≡ k' i)
-    → first ok k n ≡ first ok' k' n
-first-same ok ok' k k' n same keys = first-unique ok ok' k k' n same keys (first ok k n) (first ok' k' n) (first-is ok k n) (first-is ok' k' n)
 
 -- ---- one entry
 
@@ -81,6 +55,3 @@ module _ {n : ℕ} {site : ℕ → Bool} {line : ℕ → ℕ} {s : State} {from 
 
   pub site-is : (v : ℕ) → v < n → T (isOpen s v) → eqb (getD w (n + v) 0 % 2) 0 ≡ site v
   site-is v l t = rw (rival-is v l t) (rival-site (line v) (site v))
-
-  pub chosen-is : first (λ v. not (eqb (getD w (n + v) 0) 0)) (keyAt n w) n ≡ first (isOpen s) (λ v. key line site v (lenAt (s .best) v)) n
-  chosen-is = first-same (λ v. not (eqb (getD w (n + v) 0) 0)) (isOpen s) (keyAt n w) (λ v. key line site v (lenAt (s .best) v)) n open-is key-is

@@ -1,6 +1,6 @@
 -- What a memory holds after entries of one node are written.
 use mathlib.Core.Path.{_≡_, refl, sym, ap, _∙_}
-use mathlib.Core.Bool.{Bool, true, false, not, cond, _&&_}
+use mathlib.Core.Bool.{Bool, false, not, cond, _&&_}
 use mathlib.Core.List.{List, [], _∷_}
 use Prim.Native.Nat.{ℕ, _+_, _*_, _≤_, _<_}
 use native.Mathlib.Decide.{ℕ-discrete}
@@ -14,17 +14,6 @@ use Rattle.meaning.specs.Search.{over}
 use Rattle.meaning.proofs.Bools.{T-true, T-false, and-both}
 use Rattle.memory.specs.Memory.{Holds, rivalOf}
 use Rattle.memory.proofs.Holds.{rival-is}
-
--- entries before b are not among those from b on
-pub set-past : (w : List ℕ) (i a b : ℕ) → i < b → drop b (set w i a) ≡ drop b w
-set-past w i a b l = drop-set-lt b w i a l
-
-pub read-set : (w : List ℕ) (i j a : ℕ) → i < length w → getD (set w i a) j 0 ≡ cond (eqb j i) a (getD w j 0)
-read-set w i j a l = go (ℕ-discrete j i)
-  where
-    go : Dec (j ≡ i) → getD (set w i a) j 0 ≡ cond (eqb j i) a (getD w j 0)
-    go (yes e) = rw (eq-eqb j i e, e) (getD-set-same w i a 0 l)
-    go (no z) = rw (ne-eqb j i z) (getD-set-other w i j a 0 z)
 
 -- the estimate e at v
 abbrev pub lineWith : (ℕ → ℕ) → ℕ → ℕ → ℕ → ℕ
@@ -131,23 +120,6 @@ module _ {n : ℕ} {site : ℕ → Bool} {line : ℕ → ℕ} {s : State} {from 
       before : (v : ℕ) → v < n → Dec (v ≡ h) → getD (set w (n + n + h) x) (n + n + v) 0 ≡ getD (set from h x) v 0
       before v k (yes e) = rw e (getD-set-same w (n + n + h) x 0 (omega (arith, H .room)) ∙ sym (getD-set-same from h x 0 (omega (arith, H .leads))))
       before v k (no z) = getD-set-other w (n + n + h) (n + n + v) x 0 (λ e. z (omega arith)) ∙ H .before v k ∙ sym (getD-set-other from h v x 0 z)
-
-  -- only the estimates of open nodes are held
-  pub held-same : (line' : ℕ → ℕ) → ((v : ℕ) → v < n → T (isOpen s v) → line v ≡ line' v) → Holds n site line' s from rest w
-  held-same line' same = record {
-    room = H .room;
-    size = H .size;
-    leads = H .leads;
-    lens = H .lens;
-    rivals = λ v l. H .rivals v l ∙ go v (isOpen s v) (same v l);
-    before = H .before;
-    seen = H .seen;
-    past = H .past;
-  }
-    where
-      go : (v : ℕ) (b : Bool) → (T b → line v ≡ line' v) → cond b (rivalOf (line v) (site v)) 0 ≡ cond b (rivalOf (line' v) (site v)) 0
-      go v true e = rw (e tt)
-      go v false e = refl
 
 -- a memory of zeros holds that nothing has been seen
 pub held-none : (n : ℕ) (site : ℕ → Bool) (line : ℕ → ℕ) (w : List ℕ) → 4 * n ≤ length w

@@ -1,6 +1,6 @@
 -- The work memory of a search, in four quarters of n entries. Of node v: entry v is one more than its best length so far, and 0 while it has not been seen;
 -- entry n + v is what it is compared by beside its length while it is open, and 0 while it isn't; entry n + n + v is the number of the node before it on the
--- route, and 0 where there is none. The last quarter is not used.
+-- route, and 0 where there is none. The last quarter has the open nodes in a tree (Tree).
 use mathlib.Core.Bool.{Bool, not, cond, _&&_}
 use mathlib.Core.List.{List}
 use mathlib.Core.Option.{Option, none, some}
@@ -8,8 +8,7 @@ use mathlib.Core.Path.{_≡_}
 use Prim.Native.Nat.{ℕ, suc, _+_, _-_, _*_, _/_, _%_, _≤_, _<_}
 use lib.Dec.{T, eqb}
 use lib.ListN.{length, getD, drop}
-use Rattle.meaning.specs.Scan.{first}
-use Rattle.meaning.specs.Taking.{State, taken, isOpen, lenAt, total, bit, key}
+use Rattle.meaning.specs.Taking.{State, taken, isOpen, total, bit}
 use Rattle.memory.specs.declared.Next.{Next}
 use Rattle.memory.specs.declared.Next.the-variants.{Node, Nothing}
 
@@ -24,15 +23,6 @@ isTaken n w v = not (eqb (getD w v 0) 0) && eqb (getD w (n + v) 0) 0
 -- what open nodes are compared by
 abbrev pub keyAt : ℕ → List ℕ → ℕ → ℕ
 keyAt n w v = total (getD w v 0 - 1) ((getD w (n + v) 0 - 1) / 2) * 2 + (getD w (n + v) 0 - 1) % 2
-
--- what was found, and n for none
-abbrev pub orNone : ℕ → Option ℕ → ℕ
-orNone n none = n
-orNone n (some v) = v
-
--- the open node below i that goes first
-abbrev pub leastIn : ℕ → List ℕ → ℕ → ℕ
-leastIn n w i = orNone n (first (λ v. not (eqb (getD w (n + v) 0) 0)) (keyAt n w) i)
 
 abbrev pub nextOf : Option ℕ → Next
 nextOf none = Nothing
@@ -49,12 +39,6 @@ pub record Holds (n : ℕ) (site : ℕ → Bool) (line : ℕ → ℕ) (s : State
   pub before : (v : ℕ) → v < n → getD w (n + n + v) 0 ≡ getD from v 0
   pub seen : (v : ℕ) → T (taken s v) → 0 < getD (s .best) v 0
   pub past : drop (4 * n) w ≡ rest
-
--- r is the open node that goes next in whatever state the memory holds
-abbrev pub Chosen : ℕ → List ℕ → Next → Type 0
-Chosen n w r =
-    (site : ℕ → Bool) (line : ℕ → ℕ) (s : State) (from rest : List ℕ) → Holds n site line s from rest w
-    → r ≡ nextOf (first (isOpen s) (λ v. key line site v (lenAt (s .best) v)) n)
 
 -- r tells whether v, open in whatever state the memory holds, is a site
 abbrev pub SiteTold : ℕ → List ℕ → ℕ → Bool → Type 0

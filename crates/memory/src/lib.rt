@@ -1,14 +1,17 @@
-// The work memory of a search: what stands where (specs/Memory), the open node that goes next, and the estimate of a node.
+// The work memory of a search: what stands where (specs/Memory, specs/Tree), the open node that goes next, and the estimate of a node.
 ghost use mathlib.Core.Path.{_≡_};
 ghost use Prim.Native.Nat.{_+_, _-_, _*_, _≤_, _<_};
 ghost use lib.ListN.{length, getD, replicate};
 ghost use Rattle.meaning.specs.Search.{over};
-ghost use Rattle.memory.specs.Memory.{isTaken, keyAt, leastIn, Chosen, SiteTold};
+ghost use Rattle.memory.specs.Memory.{isTaken, keyAt, SiteTold};
 pub use estimate::aim;
 use straight::Line;
 use straight::Road;
+pub use tree::first_open;
+pub use tree::replay;
 
 mod estimate;
+mod tree;
 
 // The open node to be taken next.
 pub enum Next {
@@ -77,38 +80,4 @@ fn key(work: &[u32], n: usize, v: usize) -> u64
     let rival = work[n + v] - 1;
     let site = rival % 2;
     straight::total(road_at(work, n, v), Line(rival / 2)) * 2 + (site as u64)
-}
-
-// The better of the one found so far, n for none, and v.
-fn better(work: &[u32], n: usize, best: usize, v: usize) -> usize
-    requires { ⌜ (4 * n ≤ length (now work)) × ((v < n) × (best ≡ leastIn n (now work) v)) ⌝ }
-    ensures { λ r. ⌜ r ≡ leastIn n (now (work .entry)) (v + 1) ⌝ }
-{
-    if work[n + v] == 0 {
-        return best;
-    }
-    if best == n {
-        return v;
-    }
-    if key(work, n, v) < key(work, n, best) {
-        return v;
-    }
-    best
-}
-
-// The open node with the least total; among equals one that isn't a site, then the lower number.
-pub fn least_open(work: &[u32], n: usize) -> Next
-    requires { ⌜ 4 * n ≤ length (now work) ⌝ }
-    ensures { λ r. ⌜ Chosen n (now (work .entry)) r ⌝ }
-{
-    let mut best = n;
-    let mut v = 0;
-    while v < n {
-        best = better(work, n, best, v);
-        v += 1;
-    }
-    if best == n {
-        return Next::Nothing;
-    }
-    Next::Node(best)
 }

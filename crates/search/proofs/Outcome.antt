@@ -120,7 +120,7 @@ module _ (t : Tables) (q k : ℕ) (r : Rooms) {v : Verdict} (is : v ≡ inspect 
         taken-part xs e c = rw (e, c) (take-append-seam xs (drop (length xs) (r .sites)))
 
     clear-is : over (replicate (4 * t .n) 0) w ≡ over (replicate (4 * t .n) 0) (r .work)
-    clear-is = ap (λ (rest : List ℕ). replicate (4 * t .n) 0 ++ rest) (rw (length-replicate {A = ℕ} (4 * t .n) 0) (ran .live .past))
+    clear-is = ap (λ (rest : List ℕ). replicate (4 * t .n) 0 ++ rest) (rw (length-replicate {A = ℕ} (4 * t .n) 0) (ran .live .holds .past))
 
     taken-is : taken ≡ takenCount (regionOf t) (aimOf t) k (q - 1)
     unfolding takenCount final

@@ -1,7 +1,7 @@
 -- A run of the taking rule over tables that passed the checks: its start, a step, and where it stops.
 use mathlib.Core.Path.{_≡_, refl, sym, ap, subst, _∙_}
 use mathlib.Core.Logic.{_⊎_, inl, inr}
-use mathlib.Core.Bool.{Bool, true, false, cond, _||_}
+use mathlib.Core.Bool.{Bool, true, false, not, cond, _||_}
 use mathlib.Core.Option.{Option, none, some}
 use mathlib.Core.List.{List, [], _∷_, _++_, map, append-assoc}
 use Prim.Native.Nat.{ℕ, zero, suc, _+_, _-_, _*_, _≤_, _<_}
@@ -11,13 +11,13 @@ use borrow.Author.Tests.{le-leb, lt-leb}
 use lib.Dec.{T, leb}
 use lib.ListN.{length, getD, set, drop, replicate, length-append, length-map}
 use lib.Seq.{drop-cons, set-append-seam}
-use Rattle.meaning.specs.Scan.{first}
+use Rattle.meaning.specs.Scan.{any}
 use Rattle.meaning.specs.Region.{Tables, regionOf, isSite}
 use Rattle.meaning.specs.Taking.{State, memb, taken, isOpen, aimed, lenAt, toSites, sitesOf, mark, take1, takeAt, start, full, choose, next, after, keyIn}
 use Rattle.meaning.specs.Search.{over, aimOf}
 use Rattle.meaning.proofs.Bools.{T-true, or-left, or-right}
 use Rattle.meaning.proofs.Counting.{count}
-use Rattle.meaning.proofs.Scans.{First, first-is}
+use Rattle.meaning.proofs.Scans.{First, first-is, any-is}
 use Rattle.meaning.proofs.Orders.{memb-head, memb-tail}
 use Rattle.meaning.proofs.Relaxing.{relaxTo-taken}
 use Rattle.meaning.proofs.Listed.{Stopped, sites-in, listed-after, stays}
@@ -26,10 +26,11 @@ use Rattle.meaning.proofs.Outcomes.{aim-fits}
 use Rattle.meaning.proofs.Demands.{lengths-most}
 use Rattle.memory.specs.declared.Next.{Next}
 use Rattle.memory.specs.declared.Next.the-variants.{Node, Nothing}
-use Rattle.memory.specs.Memory.{Chosen, SiteTold, nextOf}
+use Rattle.memory.specs.Memory.{SiteTold, nextOf}
+use Rattle.memory.specs.Tree.{Tree}
 use Rattle.taking.specs.Ways.{Bounded}
 use Rattle.taking.specs.Parents.{parents1, parentsNext, parentsAfter}
-use Rattle.taking.specs.Steps.{places, Live, Took}
+use Rattle.taking.specs.Steps.{places, Live, Took, Aiming, Stays, Chosen}
 use Rattle.search.specs.Run.{Passed, stateAt, sitesAt, Put, Ran}
 use Rattle.search.proofs.Checked.{S, G}
 use Rattle.search.proofs.Left.{none-left, sites-are}
@@ -90,7 +91,7 @@ pub begun : {t : Tables} {q k : ℕ} {listed lengths rest w : List ℕ}
     → Live (places (t .xs) (t .ys) (t .sites) (t .n) (t .s)) (start (regionOf (places (t .xs) (t .ys) (t .sites) (t .n) (t .s))) (q - 1)) (replicate (t .n) 0) rest w
     → Ran t q k 0 w listed lengths w listed lengths 0 0
 unfolding after start parentsAfter sitesOf toSites aimed isSite taken
-begun h = record { sites-are = refl; taken-are = refl; live = rw (h .past) h; listed-are = refl; lengths-are = refl }
+begun h = record { sites-are = refl; taken-are = refl; live = rw (h .holds .past) h; listed-are = refl; lengths-are = refl }
 
 -- of the work memory only what follows the four quarters counts
 pub as-lent : {t : Tables} {q k i : ℕ} {work work₀ listed lengths w l d : List ℕ} {c n : ℕ} → drop (4 * t .n) work₀ ≡ drop (4 * t .n) work → Ran t q k i work₀ listed lengths w l d c n
@@ -115,8 +116,8 @@ module _ {t : Tables} {q k : ℕ} (P : Passed t q k) {i : ℕ} {work listed leng
   bounds v b = go (getD (here .best) v 0) refl
     where
       go : (x : ℕ) → getD (here .best) v 0 ≡ x → getD w v 0 ≤ 4000000000
-      go zero e = let a = ran .live .lens v b in omega arith
-      go (suc x) e = let a = ran .live .lens v b in let m = lengths-most (S P) (aimOf t) (aim-fits (S P)) i v x e in omega arith
+      go zero e = let a = ran .live .holds .lens v b in omega arith
+      go (suc x) e = let a = ran .live .holds .lens v b in let m = lengths-most (S P) (aimOf t) (aim-fits (S P)) i v x e in omega arith
 
   -- the tests of the loop are the rule's own
   full-is : full (regionOf t) k here ≡ leb k c || leb (t .s) c
@@ -128,13 +129,45 @@ module _ {t : Tables} {q k : ℕ} (P : Passed t q k) {i : ℕ} {work listed leng
   not-full : c < k → c < t .s → full (regionOf t) k here ≡ false
   not-full a b = rw (full-is, lt-leb k c a, lt-leb (t .s) c b)
 
-  chosen : {r : Next} {u : ℕ} → Chosen (t .n) w r → r ≡ Node u → choose (regionOf t) (aimOf t) here ≡ some u
-  unfolding choose
-  chosen {u = u} h e = next-some (first (isOpen here) (keyIn (regionOf t) (aimOf t) here) (t .n)) u (sym e ∙ h _ _ here from _ (ran .live))
+  -- while fewer sites are listed than there are, one is left
+  left : c < t .s → (j : ℕ) × (j < t .n) × T (aimed (regionOf t) here j)
+  left b =
+      let e : t .s ≡ c + count (aimed (regionOf t) here) (t .n) = rw (ran .sites-are) (sites-are P i) in
+      any-is (aimed (regionOf t) here) (t .n) (T-not-false (any (aimed (regionOf t) here) (t .n)) (none-left (aimed (regionOf t) here) (t .n) (t .s) c e ∙ lt-leb (t .s) c b))
+    where
+      T-not-false : (b : Bool) → not b ≡ false → T b
+      T-not-false true z = tt
+      T-not-false false z = let y : _≡_ {A = ℕ} 0 1 = cc in absurd (omega arith)
 
-  pub first-of : {r : Next} {u : ℕ} → Chosen (t .n) w r → r ≡ Node u → First (isOpen here) (keyIn (regionOf t) (aimOf t) here) (t .n) u
+  -- what choosing asks, and what it leaves
+  module _ (b : c < t .s) where
+    pub aiming : Aiming (places (t .xs) (t .ys) (t .sites) (t .n) (t .s)) w
+    unfolding isSite aimed toSites
+    aiming = record { state = here; from = from; rest = drop (4 * t .n) work; live = ran .live; left = left b .0; aims = left b .2 }
+
+    pub renewed : {w' : List ℕ} → Stays (places (t .xs) (t .ys) (t .sites) (t .n) (t .s)) w w' → Ran t q k i work listed lengths w' l d c n
+    unfolding isSite aimed toSites
+    renewed z = record {
+      sites-are = ran .sites-are;
+      taken-are = ran .taken-are;
+      live = z here from (drop (4 * t .n) work) (left b .0) (left b .2) (ran .live);
+      listed-are = ran .listed-are;
+      lengths-are = ran .lengths-are;
+    }
+
+    chosen : {r : Next} → Chosen (places (t .xs) (t .ys) (t .sites) (t .n) (t .s)) w r → r ≡ nextOf (choose (regionOf t) (aimOf t) here)
+    unfolding isSite aimed toSites choose
+    chosen h = h here from (drop (4 * t .n) work) (left b .0) (left b .2) (ran .live)
+
+    pub picked-node : {r : Next} {u : ℕ} → Chosen (places (t .xs) (t .ys) (t .sites) (t .n) (t .s)) w r → r ≡ Node u → choose (regionOf t) (aimOf t) here ≡ some u
+    picked-node {u = u} h e = next-some (choose (regionOf t) (aimOf t) here) u (sym e ∙ chosen h)
+
+    pub picked-none : {r : Next} → Chosen (places (t .xs) (t .ys) (t .sites) (t .n) (t .s)) w r → r ≡ Nothing → choose (regionOf t) (aimOf t) here ≡ none
+    picked-none h e = next-none (choose (regionOf t) (aimOf t) here) (sym e ∙ chosen h)
+
+  pub first-of : {u : ℕ} → choose (regionOf t) (aimOf t) here ≡ some u → First (isOpen here) (keyIn (regionOf t) (aimOf t) here) (t .n) u
   unfolding choose
-  first-of h e = rw (chosen h e) at (first-is (isOpen here) (keyIn (regionOf t) (aimOf t) here) (t .n))
+  first-of e = rw e at (first-is (isOpen here) (keyIn (regionOf t) (aimOf t) here) (t .n))
 
   module _ {u : ℕ} (a : c < k) (b : c < t .s) (picks : choose (regionOf t) (aimOf t) here ≡ some u) where
     state-is : stateAt t q k (suc i) ≡ take1 (regionOf t) here u
@@ -154,22 +187,21 @@ module _ {t : Tables} {q k : ℕ} (P : Passed t q k) {i : ℕ} {work listed leng
         (relaxTo-taken (regionOf t) (G P .valid) (taken (mark here u)) (here .best) u (lenAt (here .best) u) (listed-after (G P) k i .inv .size) (t .m) (omega arith) v
         (taken-old here u v (sites-in (regionOf t) (here .order) v z .0)))))
 
-  pub advanced : {r : Next} {u : ℕ} {site : Bool} {w' l' d' : List ℕ} {c' : ℕ} → c < k → c < t .s → c < length listed → c < length lengths → Chosen (t .n) w r → r ≡ Node u
+  pub advanced : {u : ℕ} {site : Bool} {w' l' d' : List ℕ} {c' : ℕ} → c < k → c < t .s → c < length listed → c < length lengths → choose (regionOf t) (aimOf t) here ≡ some u
       → SiteTold (t .n) w u site → Took t u w w' → Put site u (getD w' u 0 - 1) c l d l' d' c' → Ran t q k (suc i) work listed lengths w' l' d' c' (suc n)
   unfolding take1 sitesOf
-  advanced {u = u} {site = site} {w' = w'} {l' = l'} {d' = d'} {c' = c'} a b room₁ room₂ h e told took put =
-      let picks = chosen h e in
-      let F = first-of h e in
+  advanced {u = u} {site = site} {w' = w'} {l' = l'} {d' = d'} {c' = c'} a b room₁ room₂ picks told took put =
+      let F = first-of picks in
       let live' = took here from (drop (4 * t .n) work) (ran .live) (F .holds) in
       let s' = take1 (regionOf t) here u in
-      let same : site ≡ isSite (regionOf t) u = told _ _ here from _ (ran .live) (F .holds) in
+      let same : site ≡ isSite (regionOf t) u = told _ _ here from _ (ran .live .holds) (F .holds) in
       let z = isSite (regionOf t) u in
       let vs = sitesAt t here in
       let p : Put z u (getD w' u 0 - 1) c l d l' d' c' = rw same at put in
       ran-by s' (parents1 (regionOf t) here u from) (state-is a b picks) (from-is a b picks) (p .count-is ∙ length-more z vs u c (ran .sites-are)) (ap suc (ran .taken-are)) live'
       (p .listed-is ∙ ap (λ (x : List ℕ). cond z (set x c (suc u)) x) (ran .listed-are) ∙ more z suc vs u c listed (ran .sites-are) room₁)
       (p .lengths-is ∙ ap (λ (x : List ℕ). cond z (set x c (getD w' u 0 - 1)) x) (ran .lengths-are ∙ ap (λ (x : List ℕ). over x lengths) (lens-stay a b picks))
-      ∙ ap (λ (x : ℕ). cond z (set (over (map (lenAt (s' .best)) vs) lengths) c (x - 1)) (over (map (lenAt (s' .best)) vs) lengths)) (live' .lens u (F .below))
+      ∙ ap (λ (x : ℕ). cond z (set (over (map (lenAt (s' .best)) vs) lengths) c (x - 1)) (over (map (lenAt (s' .best)) vs) lengths)) (live' .holds .lens u (F .below))
       ∙ more z (lenAt (s' .best)) vs u c lengths (ran .sites-are) room₂)
 
   -- ---- where it stops
@@ -207,14 +239,14 @@ module _ {t : Tables} {q k : ℕ} (P : Passed t q k) {i : ℕ} {work listed leng
   pub stops-done : t .s ≤ c → (e : ℕ) → i ≤ e → Ran t q k e work listed lengths w l d c n
   stops-done a = ended (inl (rw full-is (or-right (leb k c) (leb (t .s) c) (rw (le-leb (t .s) c a) tt))))
 
-  pub stops-closed : {r : Next} → Chosen (t .n) w r → r ≡ Nothing → (e : ℕ) → i ≤ e → Ran t q k e work listed lengths w l d c n
-  unfolding choose
-  stops-closed {r} h e = ended (inr (next-none (first (isOpen here) (keyIn (regionOf t) (aimOf t) here) (t .n)) (sym e ∙ h _ _ here from _ (ran .live))))
+  pub stops-closed : choose (regionOf t) (aimOf t) here ≡ none → (e : ℕ) → i ≤ e → Ran t q k e work listed lengths w l d c n
+  stops-closed z = ended (inr z)
 
 -- what the loop keeps to
 pub record Going (t : Tables) (q k : ℕ) (work₀ listed₀ lengths₀ work listed lengths : List ℕ) (count taken : ℕ) : Type 0 where
   pub most : taken ≤ t .n
   pub ran : Ran t q k taken work₀ listed₀ lengths₀ work listed lengths count taken
+  pub tree : Tree (t .n) work
   pub work-kept : length work ≡ length work₀
   pub listed-kept : length listed ≡ length listed₀
   pub lengths-kept : length lengths ≡ length lengths₀

@@ -141,15 +141,15 @@ module _ {t : Tables} {q k : ℕ} {r : Rooms} (S : Sound base t q k r) (i : ℕ)
   pub lines-are : {rest w : List ℕ} → Live t (stateAt t q k i) (parentsAfter (regionOf t) (aimOf t) k (q - 1) i) rest w
       → linesIn (t .n) w (map suc (sitesAt t (stateAt t q k i))) ≡ stops (regionOf t) (stateAt t q k i) (sitesAt t (stateAt t q k i))
   unfolding wayIn route
-  lines-are {rest} {w} H = lines-of (regionOf t) (stateAt t q k i) w (sitesAt t (stateAt t q k i)) (λ v m. (H .lens v (below v m), way v m))
+  lines-are {rest} {w} H = lines-of (regionOf t) (stateAt t q k i) w (sitesAt t (stateAt t q k i)) (λ v m. (H .holds .lens v (below v m), way v m))
     where
       way : (v : ℕ) → T (memb v (sitesAt t (stateAt t q k i))) → wayIn (t .n) w v ≡ route (regionOf t) (stateAt t q k i) v
       way v m =
           let s = stateAt t q k i in
           let l : length (back (regionOf t) s (suc (lenAt (s .best) v)) (some v) []) ≤ t .n = short v m in
           let z = S .nodes .0 in
-          way-is (regionOf t) (G .positive) s (H .seen) w (λ x b y. H .before x b ∙ parents-are G k i x b y)
-          (suc (lenAt (s .best) v)) (t .n - 1) v [] (below v m) (H .seen v (got v m)) (omega arith) (omega arith)
+          way-is (regionOf t) (G .positive) s (H .holds .seen) w (λ x b y. H .holds .before x b ∙ parents-are G k i x b y)
+          (suc (lenAt (s .best) v)) (t .n - 1) v [] (below v m) (H .holds .seen v (got v m)) (omega arith) (omega arith)
 
   -- what writing the routes asks
   pub leads-are : {work listed lengths work' listed' lengths' : List ℕ} {sites taken : ℕ} → Ran t q k i work listed lengths work' listed' lengths' sites taken → Leads (t .n) work' listed' sites
@@ -162,8 +162,8 @@ module _ {t : Tables} {q k : ℕ} {r : Rooms} (S : Sound base t q k r) (i : ℕ)
       record {
         one = S .nodes .0;
         nodes = S .nodes .1;
-        room = ran .live .room;
-        back = λ v l. rw (ran .live .before v l) (parents-below G k i v);
+        room = ran .live .holds .room;
+        back = λ v l. rw (ran .live .holds .before v l) (parents-below G k i v);
         few = omega arith;
         lines = rw (e, length-append, length-map) (omega arith);
         low = λ j l. rw e (within (t .n) vs below _ j (omega arith) .0);

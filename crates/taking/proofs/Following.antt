@@ -2,7 +2,7 @@
 use mathlib.Core.Bool.{Bool, true, false, not, cond}
 use mathlib.Core.List.{List, []}
 use mathlib.Core.Path.{_≡_, refl, _∙_}
-use Prim.Native.Nat.{ℕ, zero, suc, _+_, _-_, _*_, _≤_, _<_}
+use Prim.Native.Nat.{ℕ, zero, suc, _+_, _-_, _*_, _/_, _≤_, _<_}
 use native.Mathlib.Decide.{decLt}
 use native.Mathlib.Numerals.{add-one}
 use native.Mathlib.Omega.{arith}
@@ -14,13 +14,17 @@ use Rattle.meaning.specs.Taking.{State, taken, aimed, lenAt, lower, looks, rela
 use Rattle.meaning.specs.Search.{aimOf, over}
 use Rattle.meaning.proofs.States.{taken-new}
 use Rattle.memory.specs.Memory.{Holds, isTaken, rivalOf}
-use Rattle.memory.specs.Aim.{Ground, siteIn, lineTo}
+use Rattle.memory.specs.Aim.{Ground}
+use Rattle.memory.specs.Tree.{Tree, But, Outside}
 use Rattle.memory.proofs.Lines.{line-is}
-use Rattle.memory.proofs.Writes.{held-none, held-open, held-same}
+use Rattle.memory.proofs.Writes.{lineWith, held-none, held-open}
+use Rattle.memory.proofs.TreeRoot.{tree-none}
+use Rattle.memory.proofs.TreeChanges.{else-none, else-length, else-rival, tree-changed, outside-held}
 use Rattle.taking.specs.Ways.{Spanned}
 use Rattle.taking.specs.Parents.{parentAt, parentBy, parentsTo, parents1}
-use Rattle.taking.specs.Steps.{places, Live, reached, Reached, Relaxed, Closed, Took}
-use Rattle.taking.proofs.Reaching.{unseen-not-taken, with-own}
+use Rattle.taking.specs.Steps.{places, Live, reached, Reached, Relaxed, Closed, Took, rivalAt}
+use Rattle.taking.proofs.Reaching.{unseen-not-taken, with-present}
+use Rattle.taking.proofs.Closing.{close-live}
 
 -- ---- the start
 
@@ -31,14 +35,22 @@ none-taken n q w w₁ room l e =
     unseen-not-taken n q w₁ (rw e (H .lens q l ∙ getD-replicate n q 0 0 l))
 
 -- the query node is opened in a memory of zeros
+pub start-tree : (n q a r : ℕ) (w w₁ : List ℕ) → q < n → w₁ ≡ over (replicate (4 * n) 0) w → But n (set (set w₁ q a) (n + q) r) q ((n + q) / 2)
+start-tree n q a r w w₁ l e = tree-changed (rw e (tree-none n w)) (else-rival (else-length (else-none n q w₁) l a) l r)
+
 pub started : (t : Tables) (q : ℕ) (w w₁ : List ℕ) → 4 * t .n ≤ length w → q < t .n → Ground (t .xs) (t .ys) (t .sites) (t .n) (t .s) → w₁ ≡ over (replicate (4 * t .n) 0) w
-    → (r : ℕ) → r ≡ rivalOf (lineTo (t .xs) (t .ys) (t .sites) (t .n) (t .s) w₁ q) (siteIn (t .sites) (t .s) q)
-    → Live t (start (regionOf t) q) (replicate (t .n) 0) (drop (4 * t .n) w) (set (set w₁ q 1) (t .n + q) r)
+    → (r : ℕ) → r ≡ rivalAt t w₁ q → (w' : List ℕ) → Outside (t .n) (set (set w₁ q 1) (t .n + q) r) w'
+    → Live t (start (regionOf t) q) (replicate (t .n) 0) (drop (4 * t .n) w) w'
 unfolding start aimed taken isSite
-started t q w w₁ room l g e r er =
-    let line = aimOf t (aimed (regionOf t) (start (regionOf t) q)) in
-    let H : Holds (t .n) (isSite (regionOf t)) line (record { best = replicate (t .n) 0; order = [] }) (replicate (t .n) 0) (drop (4 * t .n) w) w₁ = rw e (held-none (t .n) (isSite (regionOf t)) line w room) in
-    rw (er, line-is t g H q) (held-same (held-open H q l (getD-replicate (t .n) q 0 0 l) 1 (line q) (omega arith)) line (λ v k o. with-own line q v))
+started t q w w₁ room l g e r er w' O =
+    let aim = aimOf t (aimed (regionOf t) (start (regionOf t) q)) in
+    let H : Holds (t .n) (isSite (regionOf t)) aim (record { best = replicate (t .n) 0; order = [] }) (replicate (t .n) 0) (drop (4 * t .n) w) w₁ = rw e (held-none (t .n) (isSite (regionOf t)) aim w room) in
+    let i : r ≡ rivalOf (aim q) (isSite (regionOf t) q) = rw (er, line-is t g H q) in
+    record {
+      line = lineWith aim q (aim q);
+      holds = outside-held O (rw i (held-open H q l (getD-replicate (t .n) q 0 0 l) 1 (aim q) (omega arith)));
+      low = λ j m v. with-present aim aim q v (omega arith);
+    }
 
 -- ---- arcs
 
@@ -63,11 +75,12 @@ head-reached t u d i s from rest w e y = rw (eq-eqb (getD (t .tails) i 0 - 1) u 
 pub record Following (t : Tables) (u i : ℕ) (w w' : List ℕ) : Type 0 where
   pub below : i ≤ t .m
   pub size : length w' ≡ length w
+  pub tree : Tree (t .n) w'
   pub done : Relaxed t u i w w'
 
-follow-none : (t : Tables) (u : ℕ) (w : List ℕ) → Following t u 0 w w
+follow-none : (t : Tables) (u : ℕ) (w : List ℕ) → Tree (t .n) w → Following t u 0 w w
 unfolding relaxTo parentsTo
-follow-none t u w = record { below = omega arith; size = refl; done = λ s from rest H k. H }
+follow-none t u w tree = record { below = omega arith; size = refl; tree = tree; done = λ s from rest H k. H }
 
 module _ (t : Tables) (u i : ℕ) (w w₁ : List ℕ) (below : i < t .m) (r : Following t u i w w₁) where
   -- arc i is another node's
@@ -76,19 +89,20 @@ module _ (t : Tables) (u i : ℕ) (w w₁ : List ℕ) (below : i < t .m) (r : Fo
   follow-other l z = record {
     below = omega arith;
     size = r .size;
+    tree = r .tree;
     done = λ s from rest H k. rw (add-one i, ne-eqb (getD (t .tails) i 0 - 1) u (λ e. z (omega arith))) (r .done s from rest H k);
   }
 
   -- it is one of u's
-  pub follow-own : (w₂ : List ℕ) → u < t .n → getD (t .tails) i 0 ≡ u + 1 → length w₂ ≡ length w₁
+  pub follow-own : (w₂ : List ℕ) → u < t .n → getD (t .tails) i 0 ≡ u + 1 → length w₂ ≡ length w₁ → Tree (t .n) w₂
       → Reached t u (getD (t .heads) i 0 - 1) (getD w u 0 + getD (t .weights) i 0) w₁ w₂ → Following t u (i + 1) w w₂
   unfolding relaxTo parentsTo taken
-  follow-own w₂ l e size x = record { below = omega arith; size = size ∙ r .size; done = rw (add-one i) done }
+  follow-own w₂ l e size tree x = record { below = omega arith; size = size ∙ r .size; tree = tree; done = rw (add-one i) done }
     where
       done : Relaxed t u (suc i) w w₂
       done s from rest H k =
-          let p = H .seen u k in
-          let q = H .lens u l in
+          let p = H .holds .seen u k in
+          let q = H .holds .lens u l in
           let d = lenAt (s .best) u in
           let c : getD w u 0 + getD (t .weights) i 0 ≡ suc (d + getD (t .weights) i 0) = omega arith in
           let s₁ : State = record { best = relaxTo (regionOf t) (taken s) (s .best) u d i; order = s .order } in
@@ -106,8 +120,8 @@ module _ (t : Tables) (u : ℕ) (w : List ℕ) (low : (x : ℕ) → x < t .m →
       go (no k) f = let e : i ≡ suc j = omega arith in rw e at r
 
   module _ (begin end : ℕ) (span : Spanned (t .tails) (t .m) (u + 1) begin end) where
-    pub follow-first : Following t u begin w w
-    follow-first = follow-past 0 begin w (omega arith) (span .begin-most) (λ x a b. span .before x b) (follow-none t u w)
+    pub follow-first : Tree (t .n) w → Following t u begin w w
+    follow-first tree = follow-past 0 begin w (omega arith) (span .begin-most) (λ x a b. span .before x b) (follow-none t u w tree)
 
     pub follow-all : (i : ℕ) (w' : List ℕ) → end ≤ i → Following t u i w w' → Relaxed t u (t .m) w w'
     follow-all i w' l r = follow-past i (t .m) w' (r .below) (omega arith) (λ x a b. span .after x (omega arith) b) r .done
@@ -120,6 +134,6 @@ module _ (tails heads weights : List ℕ) (xs ys : List ℤ) (sites : List ℕ) 
   unfolding isSite aimed toSites
   reached-any u h at w w' x = x
 
-  pub took : (u : ℕ) (w w₁ w₂ : List ℕ) → Closed (places xs ys sites n s) u w w₁ → Relaxed (tables tails heads weights xs ys sites n m s) u m w₁ w₂ → Took (tables tails heads weights xs ys sites n m s) u w w₂
-  unfolding isSite aimed toSites take1 parents1
-  took u w w₁ w₂ c r state from rest H o = r (mark state u) from rest (c state from rest H o) (taken-new state u u refl)
+  pub took : (u : ℕ) (w w₁ w₂ : List ℕ) → Closed n u w w₁ → Relaxed (tables tails heads weights xs ys sites n m s) u m w₁ w₂ → Took (tables tails heads weights xs ys sites n m s) u w w₂
+  unfolding take1 parents1
+  took u w w₁ w₂ c r state from rest H o = r (mark state u) from rest (close-live (tables tails heads weights xs ys sites n m s) u w w₁ c state from rest H o) (taken-new state u u refl)

@@ -2,24 +2,26 @@
 use mathlib.Core.Bool.{Bool, true, false, not, cond, _&&_}
 use mathlib.Core.List.{List}
 use mathlib.Core.Path.{_≡_, refl, sym, ap, _∙_}
-use Prim.Native.Nat.{ℕ, zero, suc, _+_, _≤_, _<_}
+use Prim.Native.Nat.{ℕ, zero, suc, _+_, _/_, _≤_, _<_}
 use native.Mathlib.Numerals.{add-one}
 use native.Mathlib.Omega.{arith}
 use borrow.Author.Tests.{eq-eqb, ne-eqb, lt-ltb, le-ltb}
 use lib.Dec.{T, eqb, eqb→eq, ltb}
-use lib.ListN.{length, getD, set}
+use lib.ListN.{getD, set}
 use lib.Seq.{set-getD}
 use Rattle.meaning.specs.Region.{Tables, regionOf, isSite}
 use Rattle.meaning.specs.Taking.{State, taken, isOpen, aimed, lower}
 use Rattle.meaning.specs.Search.{aimOf}
 use Rattle.meaning.proofs.Bools.{T-false, and-both}
 use Rattle.memory.specs.Memory.{Holds, isTaken, rivalOf}
-use Rattle.memory.specs.Aim.{Ground, siteIn, lineTo}
+use Rattle.memory.specs.Aim.{Ground}
+use Rattle.memory.specs.Tree.{Tree, But, Outside}
 use Rattle.memory.proofs.Holds.{open-is, taken-is}
 use Rattle.memory.proofs.Lines.{line-is}
-use Rattle.memory.proofs.Writes.{lineWith, unseen-untaken, held-lead, held-open, held-shorten, held-same}
+use Rattle.memory.proofs.Writes.{lineWith, unseen-untaken, held-lead, held-open, held-shorten}
+use Rattle.memory.proofs.TreeChanges.{else-none, else-length, else-rival, else-lead, tree-changed, outside-held}
 use Rattle.taking.specs.Parents.{parentAt}
-use Rattle.taking.specs.Steps.{reached, Arrived, Reached}
+use Rattle.taking.specs.Steps.{reached, Live, Arrived, Reached, rivalAt}
 
 -- ---- the number before, by the length of h and that of the arc
 
@@ -93,13 +95,13 @@ module _ (n u h : ℕ) (w : List ℕ) (l : h < n) where
       rw (stays s h (getD w h 0) (omega arith) (omega arith), parent-same (taken s) u (getD w h 0) h (s .best) from (sym e), le-ltb (suc u) (getD from h 0) (omega arith)) H
 
 module _ (n u h at : ℕ) (w : List ℕ) (l : h < n) (g : at < getD w h 0) where
-  pub shorten-open : (getD w (n + h) 0 ≡ 0 → ⊥) → Arrived n u h at w (set (set w h at) (n + n + h) (u + 1))
-  shorten-open o site line s from rest p H =
+  pub shorten-open : (getD w (n + h) 0 ≡ 0 → ⊥) → (w' : List ℕ) → Outside n (set (set w h at) (n + n + h) (u + 1)) w' → Arrived n u h at w w'
+  shorten-open o w' O site line s from rest p H =
       let e = H .lens h l in
       let o′ : T (isOpen s h) = rw (← (open-is H h l), ne-eqb (getD w (n + h) 0) 0 o) tt in
       let k = open-untaken s h o′ in
       rw (moves s h at k (lower-takes (getD (s .best) h 0) at (λ z. omega arith)), parent-shorter (taken s) u at h (s .best) from (omega arith) k, ← add-one u)
-      (held-lead (held-shorten H h l o′ at p) h l (u + 1))
+      (outside-held O (held-lead (held-shorten H h l o′ at p) h l (u + 1)))
 
   pub shorten-not : getD w (n + h) 0 ≡ 0 → Arrived n u h at w w
   shorten-not o site line s from rest p H =
@@ -112,39 +114,51 @@ longer n u h at w l z g site line s from rest p H =
     let e = H .lens h l in
     rw (stays s h at (omega arith) (omega arith), parent-longer (taken s) u at h (s .best) from (omega arith) (omega arith)) H
 
+-- ---- in the tree
+
+pub shorten-tree : (n u h at : ℕ) (w : List ℕ) → h < n → Tree n w → But n (set (set w h at) (n + n + h) (u + 1)) h ((n + h) / 2)
+shorten-tree n u h at w l t = tree-changed t (else-lead (else-length (else-none n h w) l at) h (u + 1) l)
+
+pub open-tree : (n u h at r : ℕ) (w : List ℕ) → h < n → Tree n w → But n (set (set (set w h at) (n + h) r) (n + n + h) (u + 1)) h ((n + h) / 2)
+open-tree n u h at r w l t = tree-changed t (else-lead (else-rival (else-length (else-none n h w) l at) l r) h (u + 1) l)
+
 -- ---- with the estimates
 
 -- a node that has not been seen has not been taken
 pub unseen-not-taken : (n h : ℕ) (w : List ℕ) → getD w h 0 ≡ 0 → isTaken n w h ≡ false
 unseen-not-taken n h w e = rw (eq-eqb (getD w h 0) 0 e)
 
--- the estimates follow the taken nodes, and no node is taken
+-- the present estimates follow the taken nodes, and no node is taken
 pub arrived-live : (t : Tables) (u h at : ℕ) (w w' : List ℕ) → Arrived (t .n) u h at w w' → Reached t u h at w w'
 unfolding aimed taken
-arrived-live t u h at w w' a s from rest p H =
-    go (taken s h) (a (isSite (regionOf t)) (aimOf t (aimed (regionOf t) s)) s from rest p H)
+arrived-live t u h at w w' a s from rest p L = go (taken s h) (a (isSite (regionOf t)) (L .line) s from rest p (L .holds))
   where
-    go : (b : Bool) → Holds (t .n) (isSite (regionOf t)) (aimOf t (aimed (regionOf t) s)) (cond b s (reached s h at)) (parentAt (taken s) u at h (s .best) from) rest w'
-        → Holds (t .n) (isSite (regionOf t)) (aimOf t (aimed (regionOf t) (cond b s (reached s h at)))) (cond b s (reached s h at)) (parentAt (taken s) u at h (s .best) from) rest w'
-    go true x = x
-    go false x = x
+    go : (b : Bool) → Holds (t .n) (isSite (regionOf t)) (L .line) (cond b s (reached s h at)) (parentAt (taken s) u at h (s .best) from) rest w'
+        → Live t (cond b s (reached s h at)) (parentAt (taken s) u at h (s .best) from) rest w'
+    go true x = record { line = L .line; holds = x; low = L .low }
+    go false x = record { line = L .line; holds = x; low = L .low }
 
--- a node's own estimate written again
-pub with-own : (line : ℕ → ℕ) (v x : ℕ) → lineWith line v (line v) x ≡ line x
-with-own line v x = go (eqb x v) (eqb→eq x v)
+-- the present estimate of v written
+pub with-present : (line aim : ℕ → ℕ) (v x : ℕ) → line x ≤ aim x → lineWith line v (aim v) x ≤ aim x
+with-present line aim v x l = go (eqb x v) (eqb→eq x v)
   where
-    go : (b : Bool) → (T b → x ≡ v) → cond b (line v) (line x) ≡ line x
-    go true e = rw (e tt)
-    go false e = refl
+    go : (b : Bool) → (T b → x ≡ v) → cond b (aim v) (line x) ≤ aim x
+    go true e = rw (e tt) (omega arith)
+    go false e = l
 
 -- a node that has not been seen is opened, with the estimate just made
 pub opened : (t : Tables) (u h at : ℕ) (w : List ℕ) → Ground (t .xs) (t .ys) (t .sites) (t .n) (t .s) → h < t .n → getD w h 0 ≡ 0
-    → (r : ℕ) → r ≡ rivalOf (lineTo (t .xs) (t .ys) (t .sites) (t .n) (t .s) w h) (siteIn (t .sites) (t .s) h)
-    → Reached t u h at w (set (set (set w h at) (t .n + h) r) (t .n + t .n + h) (u + 1))
+    → (r : ℕ) → r ≡ rivalAt t w h → (w' : List ℕ) → Outside (t .n) (set (set (set w h at) (t .n + h) r) (t .n + t .n + h) (u + 1)) w' → Reached t u h at w w'
 unfolding aimed taken isSite
-opened t u h at w g l z r er s from rest p H =
+opened t u h at w g l z r er w' O s from rest p L =
+    let H = L .holds in
     let e : getD (s .best) h 0 ≡ 0 = sym (H .lens h l) ∙ z in
     let k = unseen-untaken H h e in
-    let line = aimOf t (aimed (regionOf t) s) in
-    rw (moves s h at k (lower-takes (getD (s .best) h 0) at (λ y. omega arith)), parent-opened (taken s) u at h (s .best) from e p k, er, line-is t g H h, ← add-one u)
-    (held-lead (held-same (held-open H h l e at (line h) p) line (λ v y o. with-own line h v)) h l (u + 1))
+    let aim = aimOf t (aimed (regionOf t) s) in
+    let i : r ≡ rivalOf (aim h) (isSite (regionOf t) h) = rw (er, line-is t g H h) in
+    rw (moves s h at k (lower-takes (getD (s .best) h 0) at (λ y. omega arith)), parent-opened (taken s) u at h (s .best) from e p k, ← add-one u)
+    (record {
+      line = lineWith (L .line) h (aim h);
+      holds = outside-held O (rw i (held-lead (held-open H h l e at (aim h) p) h l (u + 1)));
+      low = λ j m v. with-present (L .line) aim h v (L .low j m v);
+    })

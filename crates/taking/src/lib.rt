@@ -1,21 +1,25 @@
-// A step of the taking rule, in the work memory: the search's start, and a node taken.
+// A step of the taking rule, in the work memory: the search's start, a node chosen, and a node taken.
 ghost use mathlib.Core.Path.{_≡_};
+ghost use mathlib.Core.Bool.{false};
 ghost use Prim.Native.Nat.{_*_, _≤_, _<_};
 ghost use lib.ListN.{length, getD, drop, replicate};
 ghost use Rattle.meaning.specs.Region.{tables, regionOf};
 ghost use Rattle.meaning.specs.Taking.{start as startOf};
-ghost use Rattle.memory.specs.Memory.{SiteTold};
+ghost use Rattle.memory.specs.Memory.{SiteTold, isTaken};
 ghost use Rattle.memory.specs.Aim.{Ground};
+ghost use Rattle.memory.specs.Tree.{Tree};
 ghost use Rattle.taking.specs.Ways.{Arcs, Bounded, Grouped};
-ghost use Rattle.taking.specs.Steps.{places, Live, Arrived, Reached, Relaxed, SameLens, RenewedAt, Renewed, Closed, Took};
+ghost use Rattle.taking.specs.Steps.{places, Live, Arrived, Reached, Relaxed, SameLens, Closed, Took, Looked, Aiming, Stays, Chosen};
 pub use group::grouped;
+use memory::Next;
 
 mod group;
 
 // The search starts with the query node open at length 0.
 pub fn start(xs: &[i32], ys: &[i32], sites: &[u16], n: usize, s: usize, q: usize, work: &mut [u32])
-    requires { ⌜ (4 * n ≤ length (now work)) × (q < n) ⌝ }
+    requires { ⌜ (4 * n ≤ length (now work)) × ((n ≤ 1024) × (q < n)) ⌝ }
     requires { ⌜ Ground (now xs) (now ys) (now sites) n s ⌝ }
+    ensures { λ r. ⌜ Tree n (now (work .exit)) ⌝ }
     ensures { λ r. ⌜ Live (places (now (xs .entry)) (now (ys .entry)) (now (sites .entry)) n s) (startOf (regionOf (places (now (xs .entry)) (now (ys .entry)) (now (sites .entry)) n s)) q)
         (replicate n 0) (drop (4 * n) (now (work .entry))) (now (work .exit)) ⌝ }
 {
@@ -23,11 +27,14 @@ pub fn start(xs: &[i32], ys: &[i32], sites: &[u16], n: usize, s: usize, q: usize
     let rival = memory::aim(xs, ys, sites, work, n, s, q);
     work[q] = 1;
     work[n + q] = rival;
+    memory::replay(work, n, q);
 }
 
 // Of two nodes that give h its length the lower one comes before it.
 fn lower(work: &mut [u32], n: usize, u: usize, h: usize)
     requires { ⌜ (4 * n ≤ length (now work)) × ((n ≤ 1024) × ((u < n) × (h < n))) ⌝ }
+    requires { ⌜ Tree n (now work) ⌝ }
+    ensures { λ r. ⌜ Tree n (now (work .exit)) ⌝ }
     ensures { λ r. ⌜ Arrived n u h (getD (now (work .entry)) h 0) (now (work .entry)) (now (work .exit)) ⌝ }
 {
     let number = (u + 1) as u32;
@@ -39,11 +46,14 @@ fn lower(work: &mut [u32], n: usize, u: usize, h: usize)
 // An open node has a shorter length by way of u.
 fn shorten(work: &mut [u32], n: usize, u: usize, h: usize, at: u32)
     requires { ⌜ (4 * n ≤ length (now work)) × ((n ≤ 1024) × ((u < n) × ((h < n) × (at < getD (now work) h 0)))) ⌝ }
+    requires { ⌜ Tree n (now work) ⌝ }
+    ensures { λ r. ⌜ Tree n (now (work .exit)) ⌝ }
     ensures { λ r. ⌜ Arrived n u h at (now (work .entry)) (now (work .exit)) ⌝ }
 {
     if work[n + h] != 0 {
         work[h] = at;
         work[n + n + h] = (u + 1) as u32;
+        memory::replay(work, n, h);
     }
 }
 
@@ -61,6 +71,8 @@ fn reach(
 )
     requires { ⌜ (4 * n ≤ length (now work)) × ((n ≤ 1024) × ((u < n) × (h < n))) ⌝ }
     requires { ⌜ Ground (now xs) (now ys) (now sites) n s ⌝ }
+    requires { ⌜ Tree n (now work) ⌝ }
+    ensures { λ r. ⌜ Tree n (now (work .exit)) ⌝ }
     ensures { λ r. ⌜ Reached (places (now (xs .entry)) (now (ys .entry)) (now (sites .entry)) n s) u h at (now (work .entry)) (now (work .exit)) ⌝ }
 {
     let old = work[h];
@@ -69,6 +81,7 @@ fn reach(
         work[h] = at;
         work[n + h] = rival;
         work[n + n + h] = (u + 1) as u32;
+        memory::replay(work, n, h);
         return;
     }
     if old == at {
@@ -101,6 +114,8 @@ fn relax(
     requires { ⌜ Arcs (now tails) (now heads) (now weights) n m ⌝ }
     requires { ⌜ Grouped (now tails) m grouped ⌝ }
     requires { ⌜ Bounded n 4000000000 (now work) ⌝ }
+    requires { ⌜ Tree n (now work) ⌝ }
+    ensures { λ r. ⌜ Tree n (now (work .exit)) ⌝ }
     ensures { λ r. ⌜ Relaxed (tables (now (tails .entry)) (now (heads .entry)) (now (weights .entry)) (now (xs .entry)) (now (ys .entry)) (now (sites .entry)) n m s) u m
         (now (work .entry)) (now (work .exit)) ⌝ }
 {
@@ -120,56 +135,19 @@ fn relax(
     }
 }
 
-// The estimate of node v, if it is open.
-fn renew_at(xs: &[i32], ys: &[i32], sites: &[u16], n: usize, s: usize, v: usize, work: &mut [u32])
-    requires { ⌜ (4 * n ≤ length (now work)) × (v < n) ⌝ }
-    requires { ⌜ Ground (now xs) (now ys) (now sites) n s ⌝ }
-    ensures { λ r. ⌜ SameLens n (now (work .entry)) (now (work .exit)) ⌝ }
-    ensures { λ r. ⌜ RenewedAt (places (now (xs .entry)) (now (ys .entry)) (now (sites .entry)) n s) v (now (work .entry)) (now (work .exit)) ⌝ }
-{
-    if work[n + v] != 0 {
-        let rival = memory::aim(xs, ys, sites, work, n, s, v);
-        work[n + v] = rival;
-    }
-}
-
-// Totals follow the present set of sites: the estimates of all open nodes anew.
-fn renew(xs: &[i32], ys: &[i32], sites: &[u16], n: usize, s: usize, work: &mut [u32])
-    requires { ⌜ 4 * n ≤ length (now work) ⌝ }
-    requires { ⌜ Ground (now xs) (now ys) (now sites) n s ⌝ }
-    ensures { λ r. ⌜ SameLens n (now (work .entry)) (now (work .exit)) ⌝ }
-    ensures { λ r. ⌜ Renewed (places (now (xs .entry)) (now (ys .entry)) (now (sites .entry)) n s) (now (work .entry)) (now (work .exit)) ⌝ }
-{
-    let mut v = 0;
-    while v < n {
-        renew_at(xs, ys, sites, n, s, v, work);
-        v += 1;
-    }
-}
-
-// The open node u is marked as taken. Only a site that is taken changes estimates. The answer is whether it is one.
-fn close(
-    xs: &[i32],
-    ys: &[i32],
-    sites: &[u16],
-    n: usize,
-    s: usize,
-    u: usize,
-    work: &mut [u32],
-) -> bool
-    requires { ⌜ (4 * n ≤ length (now work)) × (u < n) ⌝ }
-    requires { ⌜ Ground (now xs) (now ys) (now sites) n s ⌝ }
+// The open node u is marked as taken. The answer is whether it is a site.
+fn close(work: &mut [u32], n: usize, u: usize) -> bool
+    requires { ⌜ (4 * n ≤ length (now work)) × ((n ≤ 1024) × (u < n)) ⌝ }
+    requires { ⌜ Tree n (now work) ⌝ }
     ensures { λ r. ⌜ SiteTold n (now (work .entry)) u r ⌝ }
+    ensures { λ r. ⌜ Tree n (now (work .exit)) ⌝ }
     ensures { λ r. ⌜ SameLens n (now (work .entry)) (now (work .exit)) ⌝ }
-    ensures { λ r. ⌜ Closed (places (now (xs .entry)) (now (ys .entry)) (now (sites .entry)) n s) u (now (work .entry)) (now (work .exit)) ⌝ }
+    ensures { λ r. ⌜ Closed n u (now (work .entry)) (now (work .exit)) ⌝ }
 {
     let site = memory::is_rival_site(work, n, u);
     work[n + u] = 0;
-    if !site {
-        return false;
-    }
-    renew(xs, ys, sites, n, s, work);
-    true
+    memory::replay(work, n, u);
+    site
 }
 
 // The open node u is taken. The answer is whether it is a site.
@@ -192,11 +170,13 @@ pub fn take(
     requires { ⌜ Arcs (now tails) (now heads) (now weights) n m ⌝ }
     requires { ⌜ Grouped (now tails) m grouped ⌝ }
     requires { ⌜ Bounded n 4000000000 (now work) ⌝ }
+    requires { ⌜ Tree n (now work) ⌝ }
     ensures { λ r. ⌜ SiteTold n (now (work .entry)) u r ⌝ }
+    ensures { λ r. ⌜ Tree n (now (work .exit)) ⌝ }
     ensures { λ r. ⌜ Took (tables (now (tails .entry)) (now (heads .entry)) (now (weights .entry)) (now (xs .entry)) (now (ys .entry)) (now (sites .entry)) n m s) u
         (now (work .entry)) (now (work .exit)) ⌝ }
 {
-    let site = close(xs, ys, sites, n, s, u, work);
+    let site = close(work, n, u);
     relax(
         tails,
         heads,
@@ -212,4 +192,50 @@ pub fn take(
         work,
     );
     site
+}
+
+// Whether the open node v has its present estimate. One that has risen is stored, and v is played again.
+fn fresh(
+    xs: &[i32],
+    ys: &[i32],
+    sites: &[u16],
+    n: usize,
+    s: usize,
+    v: usize,
+    work: &mut [u32],
+) -> bool
+    requires { ⌜ (4 * n ≤ length (now work)) × ((n ≤ 1024) × ((v < n) × (isTaken n (now work) v ≡ false))) ⌝ }
+    requires { ⌜ Ground (now xs) (now ys) (now sites) n s ⌝ }
+    requires { ⌜ Tree n (now work) ⌝ }
+    ensures { λ r. ⌜ Tree n (now (work .exit)) ⌝ }
+    ensures { λ r. ⌜ Looked (places (now (xs .entry)) (now (ys .entry)) (now (sites .entry)) n s) v (now (work .entry)) (now (work .exit)) r ⌝ }
+{
+    let rival = memory::aim(xs, ys, sites, work, n, s, v);
+    if work[n + v] == rival {
+        return true;
+    }
+    work[n + v] = rival;
+    memory::replay(work, n, v);
+    false
+}
+
+// The open node to be taken next. Taking sites only raises estimates, so one made earlier is at most the present one: only of the node at the tree's top it is made
+// anew.
+pub fn choose(xs: &[i32], ys: &[i32], sites: &[u16], n: usize, s: usize, work: &mut [u32]) -> Next
+    requires { ⌜ (1 ≤ n) × (n ≤ 1024) ⌝ }
+    requires { ⌜ Ground (now xs) (now ys) (now sites) n s ⌝ }
+    requires { ⌜ Tree n (now work) ⌝ }
+    requires { ⌜ Aiming (places (now xs) (now ys) (now sites) n s) (now work) ⌝ }
+    ensures { λ r. ⌜ Tree n (now (work .exit)) ⌝ }
+    ensures { λ r. ⌜ Stays (places (now (xs .entry)) (now (ys .entry)) (now (sites .entry)) n s) (now (work .entry)) (now (work .exit)) ⌝ }
+    ensures { λ r. ⌜ Chosen (places (now (xs .entry)) (now (ys .entry)) (now (sites .entry)) n s) (now (work .entry)) r ⌝ }
+{
+    loop {
+        let Next::Node(v) = memory::first_open(work, n) else {
+            return Next::Nothing;
+        };
+        if fresh(xs, ys, sites, n, s, v, work) {
+            return Next::Node(v);
+        }
+    }
 }

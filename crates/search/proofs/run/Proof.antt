@@ -8,7 +8,7 @@ use lib.ListN.{length}
 use denote.Ref.{now}
 use Rattle.meaning.specs.Region.{tables}
 use Rattle.search.proofs.Checked.{query-low, query-below, few, ground, arcs}
-use Rattle.search.proofs.Runs.{Going, bounds, begun, as-lent, all-steps, first-of, advanced, stops-filled, stops-done, stops-closed}
+use Rattle.search.proofs.Runs.{Going, bounds, begun, as-lent, all-steps, aiming, renewed, picked-node, picked-none, first-of, advanced, stops-filled, stops-done, stops-closed}
 use Rattle.search.proofs.run.Statement.{statement}
 use Rattle.search.proofs.run.Tie as tie
 
@@ -32,16 +32,20 @@ sub-start c = query-low (c .before .before .before .before .before .before .befo
 start-requires : tie.Need-start-requires Inv-loop μ-loop
 start-requires c κs =
     let p = c .before .before .before .before .before .before .before .before .pre in
-    ((p .1 .0, query-below (p .0)), ground (p .0))
+    ((p .1 .0, (few (p .0), query-below (p .0))), ground (p .0))
 
 grouped-requires : tie.Need-grouped-requires Inv-loop μ-loop
 grouped-requires c κs = arcs (c .before .before .before .before .before .before .before .before .before .before .before .pre .0) .tail-room
 
 loop-holds : tie.Need-loop-holds Inv-loop μ-loop
-loop-holds c = record { most = omega arith; ran = begun (c .before .before .before .start .ensures); work-kept = refl; listed-kept = refl; lengths-kept = refl }
+loop-holds c = record { most = omega arith; ran = begun (c .before .before .before .start .ensures .1); tree = c .before .before .before .start .ensures .0; work-kept = refl; listed-kept = refl; lengths-kept = refl }
 
-least-open-requires : tie.Need-least-open-requires Inv-loop μ-loop
-least-open-requires c κs = c .before .before .before .before .loop .inv .ran .live .room
+choose-requires : tie.Need-choose-requires Inv-loop μ-loop
+choose-requires c κs =
+    let turn = c .before .before .before .before in
+    let s = entry turn in
+    let inv = turn .loop .inv in
+    ((omega arith, few (s .pre .0)), (ground (s .pre .0), (inv .tree, aiming (s .pre .0) (inv .ran) (c .before .if2 .left))))
 
 enum-known-u : tie.Need-enum-known-u Inv-loop μ-loop
 enum-known-u c = search needs
@@ -52,31 +56,34 @@ enum-told c = search needs
 take-requires : tie.Need-take-requires Inv-loop μ-loop
 take-requires c κs =
     let picked = c .before .before in
-    let looked = picked .before .before in
+    let looked = picked .before .before .before .before in
     let turn = looked .before .before .before .before .before in
     let s = entry turn in
-    let ran = turn .loop .inv .ran in
-    let f = first-of (s .pre .0) ran (looked .least-open .ensures) (picked .u .given .1) in
-    ((ran .live .room, f .below), (ground (s .pre .0), (arcs (s .pre .0), ((λ e. sym (turn .before .grouped .ensures) ∙ e), bounds (s .pre .0) ran))))
+    let inv = turn .loop .inv in
+    let left = looked .before .before .if2 .left in
+    let ran = renewed (s .pre .0) (inv .ran) left (looked .choose .ensures .1 .0) in
+    let f = first-of (s .pre .0) (inv .ran) (picked-node (s .pre .0) (inv .ran) left (looked .choose .ensures .1 .1) (picked .u .given .1)) in
+    ((ran .live .holds .room, f .below), (ground (s .pre .0), (arcs (s .pre .0), ((λ e. sym (turn .before .grouped .ensures) ∙ e), (bounds (s .pre .0) ran, looked .choose .ensures .0)))))
 
 list-requires : tie.Need-list-requires Inv-loop μ-loop
 list-requires c κs =
     let took = c .before .before .before .before .before in
     let picked = took .before .before .before in
-    let looked = picked .before .before in
+    let looked = picked .before .before .before .before in
     let tested = looked .before .before .before in
     let turn = tested .before .before in
     let s = entry turn in
     let inv = turn .loop .inv in
-    let f = first-of (s .pre .0) (inv .ran) (looked .least-open .ensures) (picked .u .given .1) in
+    let f = first-of (s .pre .0) (inv .ran) (picked-node (s .pre .0) (inv .ran) (looked .before .before .if2 .left) (looked .choose .ensures .1 .1) (picked .u .given .1)) in
     let kept = took .take .kept .1 .1 .1 .1 .1 .1 .1 .1 .1 .1 .1 .0 in
-    let room = inv .ran .live .room in
+    let same = looked .choose .kept .1 .1 .1 .1 .1 .0 in
+    let room = inv .ran .live .holds .room in
     let under : turn .loop .count < s .args .k = tested .if1 .left in
     ((omega arith, (f .below, few (s .pre .0))), (omega (arith, s .pre, inv), omega (arith, s .pre, inv)))
 
 add-taken : tie.Need-add-taken Inv-loop μ-loop
 add-taken c =
-    let test = c .before .before .before .before .before .before .before .before .before .before .before .before .before .before .before .before .before .before .before in
+    let test = c .before .before .before .before .before .before .before .before .before .before .before .before .before .before .before .before .before .before .before .before .before in
     omega (arith, few (entry (test .before) .pre .0), test .loop-test .taken)
 
 loop-less : tie.Need-loop-less Inv-loop μ-loop
@@ -87,21 +94,23 @@ loop-again c =
     let listing = c .before .before .before .before in
     let took = listing .before .before .before .before .before .before in
     let picked = took .before .before .before in
-    let looked = picked .before .before in
+    let looked = picked .before .before .before .before in
     let tested = looked .before .before .before in
     let turn = tested .before .before in
     let s = entry turn in
     let inv = turn .loop .inv in
+    let left = looked .before .before .if2 .left in
     let under : turn .loop .count < s .args .k = tested .if1 .left in
     let listed : turn .loop .count < length (now (s .args .listed)) = omega (arith, s .pre) in
     let lengths : turn .loop .count < length (now (s .args .lengths)) = omega (arith, s .pre) in
     let step =
-    advanced (s .pre .0) (inv .ran) under (looked .before .before .if2 .left) listed lengths (looked .least-open .ensures) (picked .u .given .1) (took .take .ensures .0)
-    (took .take .ensures .1) (listing .list .ensures) in
+    advanced (s .pre .0) (renewed (s .pre .0) (inv .ran) left (looked .choose .ensures .1 .0)) under left listed lengths
+    (picked-node (s .pre .0) (inv .ran) left (looked .choose .ensures .1 .1) (picked .u .given .1)) (took .take .ensures .0) (took .take .ensures .1 .1) (listing .list .ensures) in
     record {
       most = omega (arith, tested .before .loop-test .taken);
       ran = rw add-one step;
-      work-kept = took .take .kept .1 .1 .1 .1 .1 .1 .1 .1 .1 .1 .1 .0 ∙ inv .work-kept;
+      tree = took .take .ensures .1 .0;
+      work-kept = took .take .kept .1 .1 .1 .1 .1 .1 .1 .1 .1 .1 .1 .0 ∙ looked .choose .kept .1 .1 .1 .1 .1 .0 ∙ inv .work-kept;
       listed-kept = listing .list .kept .1 .1 .1 .1 .0 ∙ inv .listed-kept;
       lengths-kept = listing .list .kept .1 .1 .1 .1 .1 .0 ∙ inv .lengths-kept;
     }
@@ -121,7 +130,7 @@ returns c =
     let s = entry turn in
     let inv = turn .loop .inv in
     let e : turn .loop .taken ≡ s .args .n = omega arith in
-    as-lent (opening turn .start .ensures .past) (all-steps e (inv .ran))
+    as-lent (opening turn .start .ensures .1 .holds .past) (all-steps e (inv .ran))
 
 same-length-4 : tie.Need-same-length-4 Inv-loop μ-loop
 same-length-4 c = c .before .before .loop .inv .work-kept ∙ opening (c .before .before) .start .kept .1 .1 .1 .1 .1 .1 .0
@@ -137,7 +146,7 @@ returns-2 c =
     let turn = c .before .before in
     let s = entry turn in
     let inv = turn .loop .inv in
-    as-lent (opening turn .start .ensures .past) (stops-filled (s .pre .0) (inv .ran) (c .if1 .taken) (s .args .n) (inv .most))
+    as-lent (opening turn .start .ensures .1 .holds .past) (stops-filled (s .pre .0) (inv .ran) (c .if1 .taken) (s .args .n) (inv .most))
 
 same-length-7 : tie.Need-same-length-7 Inv-loop μ-loop
 same-length-7 c = c .before .before .before .loop .inv .work-kept ∙ opening (c .before .before .before) .start .kept .1 .1 .1 .1 .1 .1 .0
@@ -153,23 +162,29 @@ returns-3 c =
     let turn = c .before .before .before in
     let s = entry turn in
     let inv = turn .loop .inv in
-    as-lent (opening turn .start .ensures .past) (stops-done (s .pre .0) (inv .ran) (c .if2 .taken) (s .args .n) (inv .most))
+    as-lent (opening turn .start .ensures .1 .holds .past) (stops-done (s .pre .0) (inv .ran) (c .if2 .taken) (s .args .n) (inv .most))
 
 same-length-10 : tie.Need-same-length-10 Inv-loop μ-loop
-same-length-10 c = c .before .before .before .before .before .before .before .loop .inv .work-kept ∙ opening (c .before .before .before .before .before .before .before) .start .kept .1 .1 .1 .1 .1 .1 .0
+same-length-10 c =
+    let turn = c .before .before .before .before .before .before .before .before .before in
+    c .before .before .before .before .choose .kept .1 .1 .1 .1 .1 .0 ∙ turn .loop .inv .work-kept ∙ opening turn .start .kept .1 .1 .1 .1 .1 .1 .0
 
 same-length-11 : tie.Need-same-length-11 Inv-loop μ-loop
-same-length-11 c = c .before .before .before .before .before .before .before .loop .inv .listed-kept
+same-length-11 c = c .before .before .before .before .before .before .before .before .before .loop .inv .listed-kept
 
 same-length-12 : tie.Need-same-length-12 Inv-loop μ-loop
-same-length-12 c = c .before .before .before .before .before .before .before .loop .inv .lengths-kept
+same-length-12 c = c .before .before .before .before .before .before .before .before .before .loop .inv .lengths-kept
 
 returns-4 : tie.Need-returns-4 Inv-loop μ-loop
 returns-4 c =
-    let turn = c .before .before .before .before .before .before .before in
+    let looked = c .before .before .before .before in
+    let turn = looked .before .before .before .before .before in
     let s = entry turn in
     let inv = turn .loop .inv in
-    as-lent (opening turn .start .ensures .past) (stops-closed (s .pre .0) (inv .ran) (c .before .before .least-open .ensures) (c .enum-told .given .1) (s .args .n) (inv .most))
+    let left = looked .before .before .if2 .left in
+    as-lent (opening turn .start .ensures .1 .holds .past)
+    (stops-closed (s .pre .0) (renewed (s .pre .0) (inv .ran) left (looked .choose .ensures .1 .0))
+    (picked-none (s .pre .0) (inv .ran) left (looked .choose .ensures .1 .1) (c .enum-told .given .1)) (s .args .n) (inv .most))
 
 pub run-spec : {M : Type 1} → statement M
 run-spec =
@@ -181,7 +196,7 @@ run-spec =
     start-requires
     grouped-requires
     loop-holds
-    least-open-requires
+    choose-requires
     enum-known-u
     enum-told
     take-requires

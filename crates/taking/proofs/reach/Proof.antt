@@ -1,8 +1,9 @@
 use borrow.Author.Needs.{needs}
+use mathlib.Core.Path.{_∙_}
 use native.Mathlib.Omega.{arith}
 use lib.ListN.{length-set}
 use Rattle.taking.specs.Steps.{places}
-use Rattle.taking.proofs.Reaching.{longer, arrived-live, unseen-not-taken, opened}
+use Rattle.taking.proofs.Reaching.{longer, arrived-live, unseen-not-taken, open-tree, opened}
 use Rattle.taking.proofs.reach.Statement.{statement}
 use Rattle.taking.proofs.reach.Tie as tie
 
@@ -15,7 +16,7 @@ slice-read-old c = search needs
 aim-requires : tie.Need-aim-requires
 aim-requires c κs =
     let start = c .before .before .before .before .before in
-    ((start .pre .0 .0, (start .pre .0 .1 .1 .1, unseen-not-taken (start .args .n) (start .args .h) (start .args .work .now) (c .before .if1 .taken))), start .pre .1)
+    ((start .pre .0 .0, (start .pre .0 .1 .1 .1, unseen-not-taken (start .args .n) (start .args .h) (start .args .work .now) (c .before .if1 .taken))), start .pre .1 .0)
 
 mul-work : tie.Need-mul-work
 mul-work c = search needs
@@ -50,16 +51,23 @@ mul-work-3 c = search needs
 slice-write-work-3 : tie.Need-slice-write-work-3
 slice-write-work-3 c = simp length-set (omega arith)
 
+replay-requires : tie.Need-replay-requires
+replay-requires c κs =
+    let start = c .before .before .before .before .before .before .before in
+    ((simp length-set (omega (arith, start .pre .0)), (start .pre .0 .1 .1 .1, omega (arith, start .pre .0))), open-tree (start .args .n) (start .args .u) (start .args .h) (start .args .at) (c .before .aim .result) (start .args .work .now) (start .pre .0 .1 .1 .1) (start .pre .1 .1))
+
 same-length : tie.Need-same-length
-same-length c = search needs
+same-length c = c .before .before .replay .kept .0 ∙ simp length-set
 
 returns : tie.Need-returns
 returns c =
-    let start = c .before .before .before .before .before .before in
-    opened (places (start .args .xs .now) (start .args .ys .now) (start .args .sites .now) (start .args .n) (start .args .s)) (start .args .u) (start .args .h) (start .args .at) (start .args .work .now) (start .pre .1) (start .pre .0 .1 .1 .1) (c .before .before .if1 .taken) (c .aim .result) (c .aim .ensures)
+    let start = c .before .before .before .before .before .before .before .before .before .before in
+    let replay = c .before .before .replay in
+    let aim = c .before .before .before .before .aim in
+    (replay .ensures .0, opened (places (start .args .xs .now) (start .args .ys .now) (start .args .sites .now) (start .args .n) (start .args .s)) (start .args .u) (start .args .h) (start .args .at) (start .args .work .now) (start .pre .1 .0) (start .pre .0 .1 .1 .1) (c .before .before .before .before .before .before .if1 .taken) (aim .result) (aim .ensures) _ (replay .ensures .1))
 
 lower-requires : tie.Need-lower-requires
-lower-requires c κs = search needs
+lower-requires c κs = let start = c .before .before .before .before .before .before in (start .pre .0, start .pre .1 .1)
 
 same-length-2 : tie.Need-same-length-2
 same-length-2 c = search needs
@@ -67,15 +75,18 @@ same-length-2 c = search needs
 returns-2 : tie.Need-returns-2
 returns-2 c =
     let start = c .before .before .before .before .before .before .before .before .before in
-    arrived-live (places (start .args .xs .now) (start .args .ys .now) (start .args .sites .now) (start .args .n) (start .args .s)) (start .args .u) (start .args .h) (start .args .at) (start .args .work .now) _ (rw (c .before .before .before .before .if2 .taken) at (c .before .before .lower .ensures))
+    let lower = c .before .before .lower in
+    (lower .ensures .0, arrived-live (places (start .args .xs .now) (start .args .ys .now) (start .args .sites .now) (start .args .n) (start .args .s)) (start .args .u) (start .args .h) (start .args .at) (start .args .work .now) _ (rw (c .before .before .before .before .if2 .taken) at (lower .ensures .1)))
 
 returns-3 : tie.Need-returns-3
 returns-3 c =
     let start = c .before .before .before .before .before .before in
-    arrived-live (places (start .args .xs .now) (start .args .ys .now) (start .args .sites .now) (start .args .n) (start .args .s)) (start .args .u) (start .args .h) (start .args .at) (start .args .work .now) (start .args .work .now) (longer (start .args .n) (start .args .u) (start .args .h) (start .args .at) (start .args .work .now) (start .pre .0 .1 .1 .1) (c .before .before .if1 .left) (c .if3 .taken))
+    (start .pre .1 .1, arrived-live (places (start .args .xs .now) (start .args .ys .now) (start .args .sites .now) (start .args .n) (start .args .s)) (start .args .u) (start .args .h) (start .args .at) (start .args .work .now) (start .args .work .now) (longer (start .args .n) (start .args .u) (start .args .h) (start .args .at) (start .args .work .now) (start .pre .0 .1 .1 .1) (c .before .before .if1 .left) (c .if3 .taken)))
 
 shorten-requires : tie.Need-shorten-requires
-shorten-requires c κs = search needs
+shorten-requires c κs =
+    let start = c .before .before .before .before .before .before .before in
+    ((start .pre .0 .0, (start .pre .0 .1 .0, (start .pre .0 .1 .1 .0, (start .pre .0 .1 .1 .1, omega (arith, c .before .if3 .left, c .before .before .if2 .left))))), start .pre .1 .1)
 
 same-length-3 : tie.Need-same-length-3
 same-length-3 c = search needs
@@ -83,7 +94,8 @@ same-length-3 c = search needs
 returns-4 : tie.Need-returns-4
 returns-4 c =
     let start = c .before .before .before .before .before .before .before .before .before .before in
-    arrived-live (places (start .args .xs .now) (start .args .ys .now) (start .args .sites .now) (start .args .n) (start .args .s)) (start .args .u) (start .args .h) (start .args .at) (start .args .work .now) _ (c .before .before .shorten .ensures)
+    let shorten = c .before .before .shorten in
+    (shorten .ensures .0, arrived-live (places (start .args .xs .now) (start .args .ys .now) (start .args .sites .now) (start .args .n) (start .args .s)) (start .args .u) (start .args .h) (start .args .at) (start .args .work .now) _ (shorten .ensures .1))
 
 pub reach-spec : {M : Type 1} → statement M
 reach-spec =
@@ -103,6 +115,7 @@ reach-spec =
     add-work-4
     mul-work-3
     slice-write-work-3
+    replay-requires
     same-length
     returns
     lower-requires

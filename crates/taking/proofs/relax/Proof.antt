@@ -42,7 +42,7 @@ arcs-of-requires c κs = search needs
 loop-holds : tie.Need-loop-holds Inv-loop μ-loop
 loop-holds c =
     let s = c .before .before .before .before .before .before .before in
-    follow-first (lent s) (s .args .u) (s .args .work .now) (s .pre .1 .1 .0 .tail-low) _ _ (c .arcs-of .ensures)
+    follow-first (lent s) (s .args .u) (s .args .work .now) (s .pre .1 .1 .0 .tail-low) _ _ (c .arcs-of .ensures) (s .pre .1 .1 .1 .1 .1)
 
 mul-if1 : tie.Need-mul-if1 Inv-loop μ-loop
 mul-if1 c = search needs
@@ -87,7 +87,7 @@ add-reach : tie.Need-add-reach Inv-loop μ-loop
 add-reach c =
     let test = c .before .before .before .before in
     let s = start (test .before) in
-    omega (arith, s .pre .1 .1 .1 .1 (s .args .u) (s .pre .0 .1), s .pre .1 .1 .0 .light (test .before .loop .i) (below test))
+    omega (arith, s .pre .1 .1 .1 .1 .0 (s .args .u) (s .pre .0 .1), s .pre .1 .1 .0 .light (test .before .loop .i) (below test))
 
 reach-requires : tie.Need-reach-requires Inv-loop μ-loop
 reach-requires c κs =
@@ -97,7 +97,7 @@ reach-requires c κs =
     let arcs = s .pre .1 .1 .0 in
     let low = arcs .head-low (loop .loop .i) (below test) in
     let high = arcs .head-high (loop .loop .i) (below test) in
-    ((rw (loop .loop .inv .size) (s .pre .0 .0), (arcs .nodes, (s .pre .0 .1, omega arith))), s .pre .1 .0)
+    ((rw (loop .loop .inv .size) (s .pre .0 .0), (arcs .nodes, (s .pre .0 .1, omega arith))), (s .pre .1 .0, loop .loop .inv .tree))
 
 add-i-2 : tie.Need-add-i-2 Inv-loop μ-loop
 add-i-2 c = omega (arith, below (c .before .before .before .before .before .before .before .before))
@@ -113,8 +113,8 @@ loop-again-2 c =
     let loop = test .before in
     let s = start loop in
     let t = lent s in
-    let x = reached-any (t .tails) (t .heads) (t .weights) (t .xs) (t .ys) (t .sites) (t .n) (t .m) (t .s) (s .args .u) _ _ (loop .loop .work) _ (reach .ensures) in
-    follow-own t (s .args .u) (loop .loop .i) (s .args .work .now) (loop .loop .work) (below test) (loop .loop .inv) _ (s .pre .0 .1) (if1 .if1 .left) (reach .kept .1 .1 .1 .1 .1 .1 .1 .1 .0) x
+    let x = reached-any (t .tails) (t .heads) (t .weights) (t .xs) (t .ys) (t .sites) (t .n) (t .m) (t .s) (s .args .u) _ _ (loop .loop .work) _ (reach .ensures .1) in
+    follow-own t (s .args .u) (loop .loop .i) (s .args .work .now) (loop .loop .work) (below test) (loop .loop .inv) _ (s .pre .0 .1) (if1 .if1 .left) (reach .kept .1 .1 .1 .1 .1 .1 .1 .1 .0) (reach .ensures .0) x
 
 same-length : tie.Need-same-length Inv-loop μ-loop
 same-length c = c .before .loop .inv .size
@@ -123,7 +123,7 @@ returns : tie.Need-returns Inv-loop μ-loop
 returns c =
     let loop = c .before in
     let s = start loop in
-    follow-all (lent s) (s .args .u) (s .args .work .now) (s .pre .1 .1 .0 .tail-low) _ _ (loop .before .arcs-of .ensures) (loop .loop .i) (loop .loop .work) (c .loop-test .left) (loop .loop .inv)
+    (loop .loop .inv .tree, follow-all (lent s) (s .args .u) (s .args .work .now) (s .pre .1 .1 .0 .tail-low) _ _ (loop .before .arcs-of .ensures) (loop .loop .i) (loop .loop .work) (c .loop-test .left) (loop .loop .inv))
 
 pub relax-spec : {M : Type 1} → statement M
 relax-spec =

@@ -1,0 +1,47 @@
+-- A node closed: the estimates that are held stay, and the present ones only rise.
+use mathlib.Core.Bool.{not, _||_}
+use mathlib.Core.List.{List}
+use mathlib.Core.Path.{_∙_}
+use Prim.Native.Nat.{ℕ, _+_, _/_, _<_}
+use native.Mathlib.Omega.{arith}
+use lib.Dec.{T, eqb}
+use lib.ListN.{set}
+use lib.Seq.{getD-set-other}
+use Rattle.meaning.specs.Region.{Tables, Region, regionOf, isSite, xAt, yAt}
+use Rattle.meaning.specs.Straight.{straight}
+use Rattle.meaning.specs.Taking.{State, taken, memb, isOpen, aimed, mark}
+use Rattle.meaning.proofs.Bools.{and-both, and-make, nor-both}
+use Rattle.meaning.proofs.Estimates.{sites-mono}
+use Rattle.meaning.proofs.Relaxing.{aimed-site}
+use Rattle.memory.specs.Tree.{Tree, But, Outside}
+use Rattle.memory.proofs.Writes.{held-close}
+use Rattle.memory.proofs.TreeChanges.{else-none, else-rival, tree-changed, outside-held}
+use Rattle.taking.specs.Steps.{Live, SameLens, Closed}
+
+-- entry n + v is written, and then the tree
+module _ (n v r : ℕ) (w : List ℕ) (l : v < n) where
+  pub rival-tree : Tree n w → But n (set w (n + v) r) v ((n + v) / 2)
+  rival-tree t = tree-changed t (else-rival (else-none n v w) l r)
+
+  pub rival-apart : (w' : List ℕ) → Outside n (set w (n + v) r) w' → SameLens n w w'
+  rival-apart w' O x k = O .low x (omega arith) ∙ getD-set-other w (n + v) x r 0 (λ e. omega arith)
+
+pub closed : (n u : ℕ) (w w' : List ℕ) → u < n → Outside n (set w (n + u) 0) w' → Closed n u w w'
+closed n u w w' l O site line s from rest H o = outside-held O (held-close H u l o)
+
+-- what is aimed at when u is taken was aimed at before
+aimed-less : (R : Region) (s : State) (u v : ℕ) → T (aimed R (mark s u) v) → T (aimed R s v)
+unfolding aimed taken memb
+aimed-less R s u v t =
+    let b = and-both (isSite R v) (not (eqb u v || memb v (s .order))) t in
+    and-make (isSite R v) (not (memb v (s .order))) (b .0) (nor-both (eqb u v) (memb v (s .order)) (b .1) .1)
+
+pub close-live : (t : Tables) (u : ℕ) (w w' : List ℕ) → Closed (t .n) u w w' → (s : State) (from rest : List ℕ) → Live t s from rest w → T (isOpen s u) → Live t (mark s u) from rest w'
+close-live t u w w' c s from rest L o = record {
+  line = L .line;
+  holds = c (isSite (regionOf t)) (L .line) s from rest (L .holds) o;
+  low = λ j m v.
+      let a = L .low j (aimed-less (regionOf t) s u j m) v in
+      let b = sites-mono (regionOf t) (straight (xAt t) (yAt t)) (aimed (regionOf t) s) (aimed (regionOf t) (mark s u)) (aimed-site (regionOf t) s) (aimed-less (regionOf t) s u) j m v in
+      omega arith;
+}
