@@ -5,9 +5,6 @@ use borrow.Author.Needs.{needs}
 use Rattle.list.proofs.main.Statement.{statement}
 use Rattle.list.proofs.main.Tie as tie
 
-arg-count-requires : tie.Need-arg-count-requires
-arg-count-requires c κs = search needs
-
 slice-aggregate-load : tie.Need-slice-aggregate-load
 slice-aggregate-load c = search needs
 
@@ -17,83 +14,90 @@ slice-aggregate-load-2 c = search needs
 load-requires : tie.Need-load-requires
 load-requires c κs = search needs
 
-array-share-prefix-text : tie.Need-array-share-prefix-text
-array-share-prefix-text c = search needs
+slice-aggregate-load-3 : tie.Need-slice-aggregate-load-3
+slice-aggregate-load-3 c = search needs
 
-slice-aggregate-read-graph : tie.Need-slice-aggregate-read-graph
-slice-aggregate-read-graph c = sym (length-take-le _ _ (omega (arith, c .before .before .load .ensures)))
+slice-aggregate-load-4 : tie.Need-slice-aggregate-load-4
+slice-aggregate-load-4 c = search needs
 
-slice-aggregate-read-graph-2 : tie.Need-slice-aggregate-read-graph-2
-slice-aggregate-read-graph-2 c = search needs
+load-requires-2 : tie.Need-load-requires-2
+load-requires-2 c κs = search needs
 
-slice-aggregate-read-graph-3 : tie.Need-slice-aggregate-read-graph-3
-slice-aggregate-read-graph-3 c = search needs
+slice-aggregate-load-5 : tie.Need-slice-aggregate-load-5
+slice-aggregate-load-5 c = search needs
 
-slice-aggregate-read-graph-4 : tie.Need-slice-aggregate-read-graph-4
-slice-aggregate-read-graph-4 c = search needs
+slice-aggregate-load-6 : tie.Need-slice-aggregate-load-6
+slice-aggregate-load-6 c = search needs
 
-read-graph-requires : tie.Need-read-graph-requires
-read-graph-requires c κs = search needs
+load-requires-3 : tie.Need-load-requires-3
+load-requires-3 c κs = search needs
 
-enum-known-number : tie.Need-enum-known-number
-enum-known-number c = search needs
+slice-aggregate-load-7 : tie.Need-slice-aggregate-load-7
+slice-aggregate-load-7 c = search needs
 
-slice-aggregate-refused : tie.Need-slice-aggregate-refused
-slice-aggregate-refused c = search needs
+slice-aggregate-load-8 : tie.Need-slice-aggregate-load-8
+slice-aggregate-load-8 c = search needs
 
-slice-aggregate-refused-2 : tie.Need-slice-aggregate-refused-2
-slice-aggregate-refused-2 c = search needs
+load-requires-4 : tie.Need-load-requires-4
+load-requires-4 c κs = search needs
 
-refused-requires : tie.Need-refused-requires
-refused-requires c κs = search needs
+array-share-prefix-graph : tie.Need-array-share-prefix-graph
+array-share-prefix-graph c = search needs
 
-enum-known-nodes : tie.Need-enum-known-nodes
-enum-known-nodes c = search needs
+slice-aggregate-print : tie.Need-slice-aggregate-print
+slice-aggregate-print c = sym (length-take-le _ _ (omega (arith, c .before .before .before .before .before .before .before .before .before .before .before .before .before .before .load .ensures)))
 
-slice-aggregate-with-graph : tie.Need-slice-aggregate-with-graph
-slice-aggregate-with-graph c = search needs
+array-share-prefix-points : tie.Need-array-share-prefix-points
+array-share-prefix-points c = search needs
 
-slice-aggregate-with-graph-2 : tie.Need-slice-aggregate-with-graph-2
-slice-aggregate-with-graph-2 c = search needs
+slice-aggregate-print-2 : tie.Need-slice-aggregate-print-2
+slice-aggregate-print-2 c = sym (length-take-le _ _ (omega (arith, c .before .before .before .before .before .before .before .before .before .before .before .load2 .ensures)))
 
-slice-aggregate-with-graph-3 : tie.Need-slice-aggregate-with-graph-3
-slice-aggregate-with-graph-3 c = search needs
+array-share-prefix-stands : tie.Need-array-share-prefix-stands
+array-share-prefix-stands c = search needs
 
-slice-aggregate-with-graph-4 : tie.Need-slice-aggregate-with-graph-4
-slice-aggregate-with-graph-4 c = search needs
+slice-aggregate-print-3 : tie.Need-slice-aggregate-print-3
+slice-aggregate-print-3 c = sym (length-take-le _ _ (omega (arith, c .before .before .before .before .before .before .before .before .load3 .ensures)))
 
-with-graph-requires : tie.Need-with-graph-requires
-with-graph-requires c κs = search needs
+array-share-prefix-ask : tie.Need-array-share-prefix-ask
+array-share-prefix-ask c = search needs
+
+slice-aggregate-print-4 : tie.Need-slice-aggregate-print-4
+slice-aggregate-print-4 c = sym (length-take-le _ _ (omega (arith, c .before .before .before .before .before .load4 .ensures)))
+
+arg-count-requires : tie.Need-arg-count-requires
+arg-count-requires c κs = search needs
+
+print-requires : tie.Need-print-requires
+print-requires c κs = search needs
 
 returns : tie.Need-returns
 returns c = search needs
-
-returns-2 : tie.Need-returns-2
-returns-2 c = search needs
 
 pub main-spec : {M : Type 1} → statement M
 main-spec =
     tie.close
     (tie.spec
-    arg-count-requires
     slice-aggregate-load
     slice-aggregate-load-2
     load-requires
-    array-share-prefix-text
-    slice-aggregate-read-graph
-    slice-aggregate-read-graph-2
-    slice-aggregate-read-graph-3
-    slice-aggregate-read-graph-4
-    read-graph-requires
-    enum-known-number
-    slice-aggregate-refused
-    slice-aggregate-refused-2
-    refused-requires
-    enum-known-nodes
-    slice-aggregate-with-graph
-    slice-aggregate-with-graph-2
-    slice-aggregate-with-graph-3
-    slice-aggregate-with-graph-4
-    with-graph-requires
-    returns
-    returns-2)
+    slice-aggregate-load-3
+    slice-aggregate-load-4
+    load-requires-2
+    slice-aggregate-load-5
+    slice-aggregate-load-6
+    load-requires-3
+    slice-aggregate-load-7
+    slice-aggregate-load-8
+    load-requires-4
+    array-share-prefix-graph
+    slice-aggregate-print
+    array-share-prefix-points
+    slice-aggregate-print-2
+    array-share-prefix-stands
+    slice-aggregate-print-3
+    array-share-prefix-ask
+    slice-aggregate-print-4
+    arg-count-requires
+    print-requires
+    returns)

@@ -1,8 +1,8 @@
 use Prim.Native.Nat.{_-_, _≤_}
 use lib.ListN.{length}
 use borrow.Author.Needs.{needs}
-use Rattle.list.proofs.route.Statement.{statement}
-use Rattle.list.proofs.route.Tie as tie
+use Rattle.pack.proofs.route.Statement.{statement}
+use Rattle.pack.proofs.route.Tie as tie
 
 abbrev Inv-loop : tie.InvT-loop
 Inv-loop nodes i₀ i = i ≤ length nodes

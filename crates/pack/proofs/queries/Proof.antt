@@ -2,8 +2,8 @@ use mathlib.Core.Path.{_≡_}
 use Prim.Native.Nat.{_-_, _≤_}
 use lib.ListN.{length}
 use borrow.Author.Needs.{needs}
-use Rattle.list.proofs.queries.Statement.{statement}
-use Rattle.list.proofs.queries.Tie as tie
+use Rattle.pack.proofs.queries.Statement.{statement}
+use Rattle.pack.proofs.queries.Tie as tie
 
 abbrev Inv-loop : tie.InvT-loop
 Inv-loop tails heads weights xs ys sites n m s asked count aloud work₀ i₀ work i = (i ≤ count) × (length work ≡ length work₀)
@@ -20,14 +20,14 @@ same-length c = search needs
 returns : tie.Need-returns Inv-loop μ-loop
 returns c = search needs
 
-mul-ask : tie.Need-mul-ask Inv-loop μ-loop
-mul-ask c = search needs
+mul-answer : tie.Need-mul-answer Inv-loop μ-loop
+mul-answer c = search needs
 
-shared-slice-read-ask : tie.Need-shared-slice-read-ask Inv-loop μ-loop
-shared-slice-read-ask c = search needs
+shared-slice-read-answer : tie.Need-shared-slice-read-answer Inv-loop μ-loop
+shared-slice-read-answer c = search needs
 
-ask-requires : tie.Need-ask-requires Inv-loop μ-loop
-ask-requires c κs = search needs
+answer-requires : tie.Need-answer-requires Inv-loop μ-loop
+answer-requires c κs = search needs
 
 same-length-2 : tie.Need-same-length-2 Inv-loop μ-loop
 same-length-2 c = search needs
@@ -59,9 +59,9 @@ queries-spec =
     loop-holds
     same-length
     returns
-    mul-ask
-    shared-slice-read-ask
-    ask-requires
+    mul-answer
+    shared-slice-read-answer
+    answer-requires
     same-length-2
     returns-2
     add-i

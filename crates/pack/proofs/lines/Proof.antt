@@ -1,8 +1,8 @@
 use Prim.Native.Nat.{_-_, _≤_}
 use lib.ListN.{length}
 use borrow.Author.Needs.{needs}
-use Rattle.list.proofs.lines.Statement.{statement}
-use Rattle.list.proofs.lines.Tie as tie
+use Rattle.pack.proofs.lines.Statement.{statement}
+use Rattle.pack.proofs.lines.Tie as tie
 use Rattle.search.proofs.route.Reads as route-reads′
 
 abbrev Inv-loop : tie.InvT-loop
