@@ -46,7 +46,7 @@ static inline int within(size_t x, size_t most) { return x - 1 < most; }
 
 static inline int is_coordinate(int32_t z) { return (uint32_t)z + COORDINATE_MOST <= 2u * COORDINATE_MOST; }
 
-static inline int is_marked(const uint32_t *marks, uint32_t v) { return marks[v >> 5] >> (v & 31) & 1; }
+static inline uint32_t is_marked(const uint32_t *marks, uint32_t v) { return marks[v >> 5] >> (v & 31) & 1; }
 
 static inline void mark(uint32_t *marks, uint32_t v) { marks[v >> 5] |= (uint32_t)1 << (v & 31); }
 
@@ -278,9 +278,10 @@ static inline uint64_t key_of(uint32_t length, uint32_t line, uint32_t site, uin
     return ((uint64_t)length + line) << 17 | site << 16 | v;
 }
 
+/* The keys of open nodes, and after them one that is above all, so that every parent has two children to choose from. */
 struct heap {
     size_t size;
-    uint64_t keys[ARCS_MOST + 1];
+    uint64_t keys[ARCS_MOST + 2];
 };
 
 static inline void rise(struct heap *h, size_t i, uint64_t key) {
@@ -293,23 +294,27 @@ static inline void rise(struct heap *h, size_t i, uint64_t key) {
     h->keys[i] = key;
 }
 
-static inline void push(struct heap *h, uint64_t key) { rise(h, h->size++, key); }
+static inline void push(struct heap *h, uint64_t key) {
+    h->size++;
+    h->keys[h->size] = UINT64_MAX;
+    rise(h, h->size - 1, key);
+}
 
-/* Puts a key in the place of the least. */
+/* Puts a key in the place of the least: the gap goes down to a leaf, and the key, which is most often large, up from there. */
 static inline void replace_least(struct heap *h, uint64_t key) {
     size_t i = 0, child;
     while ((child = 2 * i + 1) < h->size) {
-        if (child + 1 < h->size && h->keys[child + 1] < h->keys[child]) child++;
-        if (key <= h->keys[child]) break;
+        child += h->keys[child + 1] < h->keys[child];
         h->keys[i] = h->keys[child];
         i = child;
     }
-    h->keys[i] = key;
+    rise(h, i, key);
 }
 
 static inline void pop(struct heap *h) {
-    h->size--;
-    if (h->size > 0) replace_least(h, h->keys[h->size]);
+    uint64_t last = h->keys[--h->size];
+    h->keys[h->size] = UINT64_MAX;
+    if (h->size > 0) replace_least(h, last);
 }
 
 /* The sites not yet taken, side by side. */
