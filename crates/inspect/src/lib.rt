@@ -1,8 +1,13 @@
 // A search's checks, in the paper's order.
 ghost use mathlib.Core.Path.{_≡_};
-ghost use Rattle.meaning.specs.Limits.{base};
+ghost use mathlib.Core.Bool.{true, cond, _&&_};
+ghost use Prim.Native.Nat.{_≤_};
+ghost use lib.ListN.{length};
+ghost use Rattle.meaning.specs.Limits.{base, valueOutside};
+ghost use Rattle.meaning.specs.Files.{isCoordinate};
 ghost use Rattle.meaning.specs.Region.{tables, rooms};
-ghost use Rattle.meaning.specs.Checks.{inspect as verdictOf};
+ghost use Rattle.meaning.specs.Checks.{firstFault, countsFit, tablesFit, roomsFit, pointFault, arcFault, siteFault, inspect as verdictOf};
+ghost use Rattle.inspect.specs.Columns.{counted, pointsOf, arcsOf, sitesOf, arcFaultOf, AllPlaced, ofEntries};
 use meaning::ARC_SHORT;
 use meaning::COUNT_OUTSIDE;
 use meaning::GIVEN_TWICE;
@@ -15,12 +20,10 @@ use meaning::TABLE_SHORT;
 use meaning::VALUE_OUTSIDE;
 use meaning::Verdict;
 
-fn within(lo: usize, x: usize, hi: usize) -> bool {
-    if lo <= x { x <= hi } else { false }
-}
-
-fn counts_fit(limits: Limits, n: usize, m: usize, s: usize) -> bool {
-    if !within(1, n, limits.nodes) {
+fn counts_fit(limits: Limits, n: usize, m: usize, s: usize) -> bool
+    ensures { λ r. ⌜ r ≡ countsFit limits (counted n m s) ⌝ }
+{
+    if !reading::within(1, n, limits.nodes) {
         return false;
     }
     if limits.arcs < m {
@@ -39,7 +42,9 @@ fn tables_fit(
     n: usize,
     m: usize,
     s: usize,
-) -> bool {
+) -> bool
+    ensures { λ r. ⌜ r ≡ tablesFit (tables (now (tails .entry)) (now (heads .entry)) (now (weights .entry)) (now (xs .entry)) (now (ys .entry)) (now (sites .entry)) n m s) ⌝ }
+{
     if tails.len() < m {
         return false;
     }
@@ -66,7 +71,10 @@ fn rooms_fit(
     lengths: &[u32],
     ends: &[u16],
     routes: &[u16],
-) -> bool {
+) -> bool
+    requires { ⌜ (n ≤ 1024) × (k ≤ 32) ⌝ }
+    ensures { λ r. ⌜ r ≡ roomsFit n k (rooms (now (work .entry)) (now (listed .entry)) (now (lengths .entry)) (now (ends .entry)) (now (routes .entry))) ⌝ }
+{
     if work.len() < 4 * n {
         return false;
     }
@@ -82,19 +90,31 @@ fn rooms_fit(
     k * n <= routes.len()
 }
 
-// Coordinates by node: X and Y in range.
-fn points(xs: &[i32], ys: &[i32], most: usize, n: usize) -> Verdict {
+// One point: X and Y in range.
+fn point_fault(limits: Limits, x: i32, y: i32) -> usize
+    ensures { λ r. ⌜ r ≡ cond (isCoordinate limits x && isCoordinate limits y) 0 valueOutside ⌝ }
+{
+    if !reading::is_coordinate(limits, x) {
+        return VALUE_OUTSIDE;
+    }
+    if reading::is_coordinate(limits, y) {
+        0
+    } else {
+        VALUE_OUTSIDE
+    }
+}
+
+// Coordinates by node.
+fn points(limits: Limits, xs: &[i32], ys: &[i32], n: usize) -> Verdict
+    requires { ⌜ (n ≤ length (now xs)) × (n ≤ length (now ys)) ⌝ }
+    ensures { λ r. ⌜ r ≡ firstFault (pointFault limits (pointsOf (now (xs .entry)) (now (ys .entry)) n)) n ⌝ }
+{
     let mut v = 0;
     while v < n {
-        if most < reading::size(xs[v]) {
+        let number = point_fault(limits, xs[v], ys[v]);
+        if number != 0 {
             return Verdict::Faulty {
-                number: VALUE_OUTSIDE,
-                place: v + 1,
-            };
-        }
-        if most < reading::size(ys[v]) {
-            return Verdict::Faulty {
-                number: VALUE_OUTSIDE,
+                number,
                 place: v + 1,
             };
         }
@@ -103,24 +123,22 @@ fn points(xs: &[i32], ys: &[i32], most: usize, n: usize) -> Verdict {
     Verdict::Fine
 }
 
-// One arc: its nodes, its weight, its length.
+// One arc: its nodes and its weight as a reader has them, then its length.
 fn arc_fault(
+    limits: Limits,
     xs: &[i32],
     ys: &[i32],
-    most: usize,
     n: usize,
     tail: usize,
     head: usize,
-    weight: usize,
-) -> usize {
-    if !within(1, tail, n) {
-        return NODE_OUTSIDE;
-    }
-    if !within(1, head, n) {
-        return NODE_OUTSIDE;
-    }
-    if !within(1, weight, most) {
-        return VALUE_OUTSIDE;
+    weight: u32,
+) -> usize
+    requires { ⌜ AllPlaced (now xs) (now ys) n ⌝ }
+    ensures { λ r. ⌜ r ≡ arcFaultOf limits (now (xs .entry)) (now (ys .entry)) n tail head weight ⌝ }
+{
+    let fault = reading::arc_fault(limits, n, tail, head, weight as usize);
+    if fault != 0 {
+        return fault;
     }
     let long = weight as u64;
     if long * long < straight::squares(xs, ys, tail - 1, head - 1) {
@@ -130,25 +148,29 @@ fn arc_fault(
 }
 
 fn arcs(
+    limits: Limits,
     tails: &[u16],
     heads: &[u16],
     weights: &[u32],
     xs: &[i32],
     ys: &[i32],
-    most: usize,
     n: usize,
     m: usize,
-) -> Verdict {
+) -> Verdict
+    requires { ⌜ (m ≤ length (now tails)) × (m ≤ length (now heads)) × (m ≤ length (now weights)) ⌝ }
+    requires { ⌜ AllPlaced (now xs) (now ys) n ⌝ }
+    ensures { λ r. ⌜ r ≡ firstFault (arcFault limits (arcsOf (now (tails .entry)) (now (heads .entry)) (now (weights .entry)) (now (xs .entry)) (now (ys .entry)) n)) m ⌝ }
+{
     let mut i = 0;
     while i < m {
         let number = arc_fault(
+            limits,
             xs,
             ys,
-            most,
             n,
             tails[i] as usize,
             heads[i] as usize,
-            weights[i] as usize,
+            weights[i],
         );
         if number != 0 {
             return Verdict::Faulty {
@@ -162,14 +184,17 @@ fn arcs(
 }
 
 // The first faulty entry ends the check and is the place: each site, against all earlier ones.
-fn stands(sites: &[u16], n: usize, s: usize) -> Verdict {
+fn stands(sites: &[u16], n: usize, s: usize) -> Verdict
+    requires { ⌜ s ≤ length (now sites) ⌝ }
+    ensures { λ r. ⌜ r ≡ firstFault (siteFault base (sitesOf (now (sites .entry)) n)) s ⌝ }
+{
     let mut j = 0;
     'entries: loop {
         if s <= j {
             break 'entries Verdict::Fine;
         }
         let number = sites[j] as usize;
-        if !within(1, number, n) {
+        if !reading::within(1, number, n) {
             break 'entries Verdict::Faulty {
                 number: NODE_OUTSIDE,
                 place: j + 1,
@@ -201,13 +226,16 @@ fn entries(
     n: usize,
     m: usize,
     s: usize,
-) -> Verdict {
+) -> Verdict
+    requires { ⌜ tablesFit (tables (now tails) (now heads) (now weights) (now xs) (now ys) (now sites) n m s) ≡ true ⌝ }
+    ensures { λ r. ⌜ r ≡ ofEntries base (tables (now (tails .entry)) (now (heads .entry)) (now (weights .entry)) (now (xs .entry)) (now (ys .entry)) (now (sites .entry)) n m s) ⌝ }
+{
     let limits = meaning::base();
-    let by_point = points(xs, ys, limits.coordinate, n);
+    let by_point = points(limits, xs, ys, n);
     if let Verdict::Faulty { number, place } = by_point {
         return Verdict::Faulty { number, place };
     }
-    let by_arc = arcs(tails, heads, weights, xs, ys, limits.weight, n, m);
+    let by_arc = arcs(limits, tails, heads, weights, xs, ys, n, m);
     if let Verdict::Faulty { number, place } = by_arc {
         return Verdict::Faulty { number, place };
     }
@@ -249,13 +277,13 @@ pub fn inspect(
             place: 0,
         };
     }
-    if !within(1, query, n) {
+    if !reading::within(1, query, n) {
         return Verdict::Faulty {
             number: QUERY_OUTSIDE,
             place: 0,
         };
     }
-    if !within(1, k, limits.k) {
+    if !reading::within(1, k, limits.k) {
         return Verdict::Faulty {
             number: K_OUTSIDE,
             place: 0,

@@ -50,7 +50,7 @@ pub struct Said {
     pub next: usize,
 }
 
-fn within(lo: usize, x: usize, hi: usize) -> bool
+pub fn within(lo: usize, x: usize, hi: usize) -> bool
     ensures { λ r. ⌜ r ≡ isWithin lo x hi ⌝ }
 {
     if lo <= x { x <= hi } else { false }
@@ -112,7 +112,7 @@ fn counts_fault(rules: Rules, c: Counts) -> usize
     if c.rows <= rules.room { 0 } else { TABLE_SHORT }
 }
 
-fn arc_fault(limits: Limits, n: usize, tail: usize, head: usize, weight: usize) -> usize
+pub fn arc_fault(limits: Limits, n: usize, tail: usize, head: usize, weight: usize) -> usize
     ensures { λ r. ⌜ r ≡ entryFault limits n (Entry.Arc tail head weight) ⌝ }
 {
     if !within(1, tail, n) {

@@ -211,7 +211,10 @@ fn part<'a>(routes: &'a [u16], a: usize, e: usize) -> &'a [u16]
 }
 
 // Where the route of a rank begins: at the end of the one before.
-fn begin(ends: &[u16], rank: usize) -> usize {
+fn begin(ends: &[u16], rank: usize) -> usize
+    requires { ⌜ rank ≤ length (now ends) ⌝ }
+    ensures { λ r. ⌜ r ≡ beginOf (now (ends .entry)) rank ⌝ }
+{
     if 1 < rank {
         return ends[rank - 2] as usize;
     }

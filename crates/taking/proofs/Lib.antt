@@ -1,2 +1,6 @@
 -- the numbers of the nodes before are those that the lengths give
 pub mod Parents
+-- what the memory holds after an arc reaches a node, estimates anew and a node closed, the start, the arcs of a node and a node taken
+mod Reaching
+mod Renewing
+mod Following

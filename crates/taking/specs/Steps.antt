@@ -1,8 +1,9 @@
 -- What a step does to the state that the memory holds.
-use mathlib.Core.Bool.{cond}
+use mathlib.Core.Bool.{Bool, cond}
 use mathlib.Core.List.{List, []}
-use Prim.Native.Nat.{ℕ}
-use lib.Dec.{T}
+use mathlib.Core.Path.{_≡_}
+use Prim.Native.Nat.{ℕ, _≤_, _<_}
+use lib.Dec.{T, eqb}
 use lib.IntN.{ℤ}
 use lib.ListN.{getD, set}
 use Rattle.meaning.specs.Region.{Tables, tables, regionOf, isSite}
@@ -23,10 +24,16 @@ Live t s from rest w = Holds (t .n) (isSite (regionOf t)) (aimOf t (aimed (regio
 abbrev pub reached : State → ℕ → ℕ → State
 reached s h at = record { best = set (s .best) h (lower (getD (s .best) h 0) at); order = s .order }
 
--- an arc of u reaches h: nothing changes but for h, and only if it has not been taken
+-- an arc of u reaches h, whatever the estimates are: nothing changes but for h, and only if it has not been taken
+abbrev pub Arrived : ℕ → ℕ → ℕ → ℕ → List ℕ → List ℕ → Type 0
+Arrived n u h at w w' =
+    (site : ℕ → Bool) (line : ℕ → ℕ) (s : State) (from rest : List ℕ) → 1 ≤ at → Holds n site line s from rest w
+    → Holds n site line (cond (taken s h) s (reached s h at)) (parentAt (taken s) u at h (s .best) from) rest w'
+
+-- an arc of u reaches h; a node that it opens has its estimate
 abbrev pub Reached : Tables → ℕ → ℕ → ℕ → List ℕ → List ℕ → Type 0
 Reached t u h at w w' =
-    (s : State) (from rest : List ℕ) → Live t s from rest w
+    (s : State) (from rest : List ℕ) → 1 ≤ at → Live t s from rest w
     → Live t (cond (taken s h) s (reached s h at)) (parentAt (taken s) u at h (s .best) from) rest w'
 
 -- u, taken already, has the first i arcs followed
@@ -35,6 +42,16 @@ Relaxed t u i w w' =
     (s : State) (from rest : List ℕ) → Live t s from rest w → T (taken s u)
     → Live t (record { best = relaxTo (regionOf t) (taken s) (s .best) u (lenAt (s .best) u) i; order = s .order })
     (parentsTo (regionOf t) (taken s) (s .best) u (lenAt (s .best) u) from i) rest w'
+
+-- no length changes
+abbrev pub SameLens : ℕ → List ℕ → List ℕ → Type 0
+SameLens n w w' = (v : ℕ) → v < n → getD w' v 0 ≡ getD w v 0
+
+-- node v has its estimate anew
+abbrev pub RenewedAt : Tables → ℕ → List ℕ → List ℕ → Type 0
+RenewedAt t v w w' =
+    (line : ℕ → ℕ) (s : State) (from rest : List ℕ) → Holds (t .n) (isSite (regionOf t)) line s from rest w
+    → Holds (t .n) (isSite (regionOf t)) (λ x. cond (eqb x v) (aimOf t (aimed (regionOf t) s) v) (line x)) s from rest w'
 
 -- every open node has its estimate anew
 abbrev pub Renewed : Tables → List ℕ → List ℕ → Type 0

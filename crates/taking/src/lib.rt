@@ -1,13 +1,13 @@
 // A step of the taking rule, in the work memory: the search's start, and a node taken.
 ghost use mathlib.Core.Path.{_≡_};
 ghost use Prim.Native.Nat.{_*_, _≤_, _<_};
-ghost use lib.ListN.{length, drop, replicate};
+ghost use lib.ListN.{length, getD, drop, replicate};
 ghost use Rattle.meaning.specs.Region.{tables, regionOf};
 ghost use Rattle.meaning.specs.Taking.{start as startOf};
 ghost use Rattle.memory.specs.Memory.{SiteTold};
 ghost use Rattle.memory.specs.Aim.{Ground};
 ghost use Rattle.taking.specs.Ways.{Arcs, Bounded};
-ghost use Rattle.taking.specs.Steps.{places, Live, Reached, Relaxed, Renewed, Closed, Took};
+ghost use Rattle.taking.specs.Steps.{places, Live, Arrived, Reached, Relaxed, SameLens, RenewedAt, Renewed, Closed, Took};
 
 // The search starts with the query node open at length 0.
 pub fn start(xs: &[i32], ys: &[i32], sites: &[u16], n: usize, s: usize, q: usize, work: &mut [u32])
@@ -23,7 +23,10 @@ pub fn start(xs: &[i32], ys: &[i32], sites: &[u16], n: usize, s: usize, q: usize
 }
 
 // Of two nodes that give h its length the lower one comes before it.
-fn lower(work: &mut [u32], n: usize, u: usize, h: usize) {
+fn lower(work: &mut [u32], n: usize, u: usize, h: usize)
+    requires { ⌜ (4 * n ≤ length (now work)) × ((n ≤ 1024) × ((u < n) × (h < n))) ⌝ }
+    ensures { λ r. ⌜ Arrived n u h (getD (now (work .entry)) h 0) (now (work .entry)) (now (work .exit)) ⌝ }
+{
     let number = (u + 1) as u32;
     if number < work[n + n + h] {
         work[n + n + h] = number;
@@ -31,7 +34,10 @@ fn lower(work: &mut [u32], n: usize, u: usize, h: usize) {
 }
 
 // An open node has a shorter length by way of u.
-fn shorten(work: &mut [u32], n: usize, u: usize, h: usize, at: u32) {
+fn shorten(work: &mut [u32], n: usize, u: usize, h: usize, at: u32)
+    requires { ⌜ (4 * n ≤ length (now work)) × ((n ≤ 1024) × ((u < n) × ((h < n) × (at < getD (now work) h 0)))) ⌝ }
+    ensures { λ r. ⌜ Arrived n u h at (now (work .entry)) (now (work .exit)) ⌝ }
+{
     if work[n + h] != 0 {
         work[h] = at;
         work[n + n + h] = (u + 1) as u32;
@@ -50,7 +56,7 @@ fn reach(
     at: u32,
     work: &mut [u32],
 )
-    requires { ⌜ (4 * n ≤ length (now work)) × ((n ≤ 1024) × ((u < n) × ((h < n) × (1 ≤ at)))) ⌝ }
+    requires { ⌜ (4 * n ≤ length (now work)) × ((n ≤ 1024) × ((u < n) × (h < n))) ⌝ }
     requires { ⌜ Ground (now xs) (now ys) (now sites) n s ⌝ }
     ensures { λ r. ⌜ Reached (places (now (xs .entry)) (now (ys .entry)) (now (sites .entry)) n s) u h at (now (work .entry)) (now (work .exit)) ⌝ }
 {
@@ -108,7 +114,12 @@ fn relax(
 }
 
 // The estimate of node v, if it is open.
-fn renew_at(xs: &[i32], ys: &[i32], sites: &[u16], n: usize, s: usize, v: usize, work: &mut [u32]) {
+fn renew_at(xs: &[i32], ys: &[i32], sites: &[u16], n: usize, s: usize, v: usize, work: &mut [u32])
+    requires { ⌜ (4 * n ≤ length (now work)) × (v < n) ⌝ }
+    requires { ⌜ Ground (now xs) (now ys) (now sites) n s ⌝ }
+    ensures { λ r. ⌜ SameLens n (now (work .entry)) (now (work .exit)) ⌝ }
+    ensures { λ r. ⌜ RenewedAt (places (now (xs .entry)) (now (ys .entry)) (now (sites .entry)) n s) v (now (work .entry)) (now (work .exit)) ⌝ }
+{
     if work[n + v] != 0 {
         let rival = memory::aim(xs, ys, sites, work, n, s, v);
         work[n + v] = rival;
@@ -119,6 +130,7 @@ fn renew_at(xs: &[i32], ys: &[i32], sites: &[u16], n: usize, s: usize, v: usize,
 fn renew(xs: &[i32], ys: &[i32], sites: &[u16], n: usize, s: usize, work: &mut [u32])
     requires { ⌜ 4 * n ≤ length (now work) ⌝ }
     requires { ⌜ Ground (now xs) (now ys) (now sites) n s ⌝ }
+    ensures { λ r. ⌜ SameLens n (now (work .entry)) (now (work .exit)) ⌝ }
     ensures { λ r. ⌜ Renewed (places (now (xs .entry)) (now (ys .entry)) (now (sites .entry)) n s) (now (work .entry)) (now (work .exit)) ⌝ }
 {
     let mut v = 0;
@@ -141,6 +153,7 @@ fn close(
     requires { ⌜ (4 * n ≤ length (now work)) × (u < n) ⌝ }
     requires { ⌜ Ground (now xs) (now ys) (now sites) n s ⌝ }
     ensures { λ r. ⌜ SiteTold n (now (work .entry)) u r ⌝ }
+    ensures { λ r. ⌜ SameLens n (now (work .entry)) (now (work .exit)) ⌝ }
     ensures { λ r. ⌜ Closed (places (now (xs .entry)) (now (ys .entry)) (now (sites .entry)) n s) u (now (work .entry)) (now (work .exit)) ⌝ }
 {
     let site = memory::is_rival_site(work, n, u);

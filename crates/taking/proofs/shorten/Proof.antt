@@ -1,0 +1,71 @@
+use borrow.Author.Needs.{needs}
+use native.Mathlib.Omega.{arith}
+use lib.ListN.{length-set}
+use Rattle.taking.proofs.Reaching.{shorten-open, shorten-not}
+use Rattle.taking.proofs.shorten.Statement.{statement}
+use Rattle.taking.proofs.shorten.Tie as tie
+
+add-if1 : tie.Need-add-if1
+add-if1 c = search needs
+
+mul-if1 : tie.Need-mul-if1
+mul-if1 c = search needs
+
+slice-read-if1 : tie.Need-slice-read-if1
+slice-read-if1 c = search needs
+
+mul-work : tie.Need-mul-work
+mul-work c = search needs
+
+slice-write-work : tie.Need-slice-write-work
+slice-write-work c = search needs
+
+add-work : tie.Need-add-work
+add-work c = search needs
+
+cast-work : tie.Need-cast-work
+cast-work c = search needs
+
+add-work-2 : tie.Need-add-work-2
+add-work-2 c = search needs
+
+add-work-3 : tie.Need-add-work-3
+add-work-3 c = search needs
+
+mul-work-2 : tie.Need-mul-work-2
+mul-work-2 c = search needs
+
+slice-write-work-2 : tie.Need-slice-write-work-2
+slice-write-work-2 c = simp length-set (omega arith)
+
+same-length : tie.Need-same-length
+same-length c = search needs
+
+returns : tie.Need-returns
+returns c =
+    let start = c .before .before in
+    shorten-open (start .args .n) (start .args .u) (start .args .h) (start .args .at) (start .args .work .now) (start .pre .1 .1 .1 .0) (start .pre .1 .1 .1 .1) (c .if1 .taken)
+
+returns-2 : tie.Need-returns-2
+returns-2 c =
+    let start = c .before .before in
+    shorten-not (start .args .n) (start .args .u) (start .args .h) (start .args .at) (start .args .work .now) (start .pre .1 .1 .1 .0) (start .pre .1 .1 .1 .1) (c .if1 .left)
+
+pub shorten-spec : {M : Type 1} → statement M
+shorten-spec =
+    tie.close
+    (tie.spec
+    add-if1
+    mul-if1
+    slice-read-if1
+    mul-work
+    slice-write-work
+    add-work
+    cast-work
+    add-work-2
+    add-work-3
+    mul-work-2
+    slice-write-work-2
+    same-length
+    returns
+    returns-2)
