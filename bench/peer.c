@@ -101,7 +101,7 @@ static inline const uint8_t *past_signed(const uint8_t *p, int32_t *value) {
 
 enum kind { GRAPH, COORDINATES, SITES };
 
-/* What a data line says. The two last fields are a head and a weight, X and Y, or nothing. */
+/* What a data line says: a node and, by the kind of text, a head and a weight, or X and Y. */
 struct entry {
     uint32_t node, head, weight;
     int32_t x, y;
@@ -361,6 +361,42 @@ static inline void drop_aim(struct aims *aims, uint32_t v) {
     aims->nodes[j] = aims->nodes[aims->count];
 }
 
+static uint64_t judge_points(const int32_t *xs, const int32_t *ys, size_t n) {
+    for (size_t v = 0; v < n; v++)
+        if (!is_coordinate(xs[v]) || !is_coordinate(ys[v])) return refused(VALUE_OUTSIDE, v + 1);
+    return 0;
+}
+
+/* Judges the arcs, and chains them by tail in the same pass: first[u], and from each the next of the same tail. */
+static uint64_t judge_arcs(const uint16_t *tails, const uint16_t *heads, const uint32_t *weights, const int32_t *xs, const int32_t *ys,
+                           size_t n, size_t m, uint16_t *first, uint16_t *next) {
+    memset(first, 0xFF, n * sizeof *first);
+    for (size_t i = 0; i < m; i++) {
+        uint32_t u = tails[i] - 1u, v = heads[i] - 1u, w = weights[i];
+        if (u >= n || v >= n) return refused(NODE_OUTSIDE, i + 1);
+        if (!within(w, WEIGHT_MOST)) return refused(VALUE_OUTSIDE, i + 1);
+        if ((uint64_t)w * w < squares(xs[u], ys[u], xs[v], ys[v])) return refused(ARC_SHORT, i + 1);
+        next[i] = first[u];
+        first[u] = (uint16_t)i;
+    }
+    return 0;
+}
+
+static uint64_t judge_sites(const uint16_t *sites, const int32_t *xs, const int32_t *ys, size_t n, size_t s, uint32_t *is_site,
+                            struct aims *aims) {
+    for (size_t j = 0; j < s; j++) {
+        uint32_t v = sites[j] - 1u;
+        if (v >= n) return refused(NODE_OUTSIDE, j + 1);
+        if (is_marked(is_site, v)) return refused(GIVEN_TWICE, j + 1);
+        mark(is_site, v);
+        aims->xs[j] = xs[v];
+        aims->ys[j] = ys[v];
+        aims->nodes[j] = (uint16_t)v;
+    }
+    aims->count = s;
+    return 0;
+}
+
 /* The routes of the listed sites, back to back, by the node before each. */
 static void write_routes(const uint16_t *before, uint32_t query, const uint16_t *listed, size_t count, uint16_t *ends, uint16_t *routes) {
     size_t end = 0;
@@ -385,41 +421,20 @@ uint64_t peer_search(const uint16_t *tails, size_t tails_len, const uint16_t *he
     if (!within(k, K_MOST)) return refused(K_OUTSIDE, 0);
     if (work_len < 4 * n || listed_len < k || lengths_len < k || ends_len < k || routes_len < k * n) return refused(ROOM_SHORT, 0);
 
-    for (size_t v = 0; v < n; v++)
-        if (!is_coordinate(xs[v]) || !is_coordinate(ys[v])) return refused(VALUE_OUTSIDE, v + 1);
-
-    /* The arcs are judged, and chained by tail in the same pass: first[u], and from each the next of the same tail. */
+    uint64_t fault;
     uint16_t first[NODES_MOST], next[ARCS_MOST];
-    memset(first, 0xFF, n * sizeof *first);
-    for (size_t i = 0; i < m; i++) {
-        uint32_t u = tails[i] - 1u, v = heads[i] - 1u, w = weights[i];
-        if (u >= n || v >= n) return refused(NODE_OUTSIDE, i + 1);
-        if (!within(w, WEIGHT_MOST)) return refused(VALUE_OUTSIDE, i + 1);
-        if ((uint64_t)w * w < squares(xs[u], ys[u], xs[v], ys[v])) return refused(ARC_SHORT, i + 1);
-        next[i] = first[u];
-        first[u] = (uint16_t)i;
-    }
-
     uint32_t is_site[NODES_MOST / 32] = {0};
     struct aims aims;
-    for (size_t j = 0; j < s; j++) {
-        uint32_t v = sites[j] - 1u;
-        if (v >= n) return refused(NODE_OUTSIDE, j + 1);
-        if (is_marked(is_site, v)) return refused(GIVEN_TWICE, j + 1);
-        mark(is_site, v);
-        aims.xs[j] = xs[v];
-        aims.ys[j] = ys[v];
-        aims.nodes[j] = (uint16_t)v;
-    }
-    aims.count = s;
+    if ((fault = judge_points(xs, ys, n)) != 0) return fault;
+    if ((fault = judge_arcs(tails, heads, weights, xs, ys, n, m, first, next)) != 0) return fault;
+    if ((fault = judge_sites(sites, xs, ys, n, s, is_site, &aims)) != 0) return fault;
 
-    /* Of each node seen: its best length, the lowest node before it that gives that length, its key in the heap, and the site that its
-     * estimate is of. A key that isn't the node's own any more is of a longer length or of a node that has been taken, and is passed by. */
-    uint32_t length[NODES_MOST];
+    /* Of each node seen: its best length, the lowest node before it that gives that length, its straight line and the site that this
+     * leads to, and its key in the heap. A key that isn't the node's own any more is of a longer length or of a node that has been taken,
+     * and is passed by. is_gone has the sites taken. */
+    uint32_t length[NODES_MOST], line[NODES_MOST], is_gone[NODES_MOST / 32] = {0};
     uint16_t before[NODES_MOST], closest[NODES_MOST];
-    uint32_t line[NODES_MOST];
     uint64_t key[NODES_MOST];
-    uint32_t is_taken[NODES_MOST / 32] = {0};
     struct heap heap;
     size_t most = least(k, s), count = 0, taken = 0;
     uint32_t q = (uint32_t)query - 1;
@@ -441,23 +456,25 @@ uint64_t peer_search(const uint16_t *tails, size_t tails_len, const uint16_t *he
         }
         uint32_t site = is_marked(is_site, u);
         /* Estimates only grow as sites are taken, so one is renewed only when its node comes up and its site has gone. */
-        if (is_marked(is_taken, closest[u])) {
+        if (is_marked(is_gone, closest[u])) {
             line[u] = line_from(&aims, xs[u], ys[u], &closest[u]);
             key[u] = key_of(length[u], line[u], site, u);
             replace_least(&heap, key[u]);
             continue;
         }
         pop(&heap);
-        key[u] = 0;
+        key[u] = UINT64_MAX;
         taken++;
         if (site) {
             listed[count] = (uint16_t)(u + 1);
             lengths[count] = length[u];
             count++;
             if (count == most) break;
-            mark(is_taken, u);
+            mark(is_gone, u);
             drop_aim(&aims, u);
         }
+        /* A head that has been taken has its shortest length, as no arc is shorter than the straight line, so nothing shortens it; but
+         * a lower node that gives the same length may still come. */
         for (uint32_t i = first[u]; i != NONE; i = next[i]) {
             uint32_t v = heads[i] - 1u, by = length[u] + weights[i];
             if (by > length[v]) continue;
