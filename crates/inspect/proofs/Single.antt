@@ -41,18 +41,23 @@ point-is L xs ys n v f g e = e ∙ rw (held (entry xs v) f, held (entry ys v) g)
 
 -- ---- arcs
 
-module _ (L : Limits) (xs ys : List ℤ) (n u v w f : ℕ) (e : f ≡ entryFault L n (Arc u v w)) where
+-- f is the fault that a reader would find
+pub arc-passed : (L : Limits) (n u v w : ℕ) {f : ℕ} → f ≡ entryFault L n (Arc u v w) → f ≡ 0 → ArcFine L n u v w
+arc-passed L n u v w e z = arc-fine L n u v w (sym e ∙ z)
+
+module _ (L : Limits) (xs ys : List ℤ) (n u v w : ℕ) {f : ℕ} (e : f ≡ entryFault L n (Arc u v w)) where
   pub arc-first : (f ≡ 0 → ⊥) → f ≡ arcFaultOf L xs ys n u v w
+  unfolding arcFaultOf
   arc-first z = e ∙ sym (else-first (entryFault L n (Arc u v w)) _ (λ q. z (e ∙ q)))
 
-  pub arc-passed : f ≡ 0 → ArcFine L n u v w
-  arc-passed z = arc-fine L n u v w (sym e ∙ z)
-
-  module _ (z : f ≡ 0) (d : ℕ) (q : d ≡ squares (entry xs) (entry ys) (u - 1) (v - 1)) where
+  -- d is dx squared plus dy squared
+  module _ (z : f ≡ 0) {d : ℕ} (q : d ≡ squares (entry xs) (entry ys) (u - 1) (v - 1)) where
     pub arc-short : w * w < d → 10 ≡ arcFaultOf L xs ys n u v w
+    unfolding arcFaultOf
     arc-short l = sym (else-later (entryFault L n (Arc u v w)) _ (sym e ∙ z) ∙ rw (← q, lt-leb d (w * w) l))
 
     pub arc-long : d ≤ w * w → 0 ≡ arcFaultOf L xs ys n u v w
+    unfolding arcFaultOf
     arc-long l = sym (else-later (entryFault L n (Arc u v w)) _ (sym e ∙ z) ∙ rw (← q, le-leb d (w * w) l))
 
 -- ---- sites
@@ -82,6 +87,6 @@ module _ (sites : List ℕ) (n j : ℕ) where
   unfolding siteFault orElse
   site-twice e a = rw (e, a)
 
-  pub site-fine : within 1 (getD sites j 0) n ≡ true → among sites (getD sites j 0) j ≡ false → siteFault base (sitesOf sites n) j ≡ 0
+  pub site-fine : within 1 (getD sites j 0) n ≡ true → among sites (getD sites j 0) j ≡ false → 0 ≡ siteFault base (sitesOf sites n) j
   unfolding siteFault orElse
   site-fine e a = rw (e, a)

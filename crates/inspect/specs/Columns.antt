@@ -30,7 +30,7 @@ abbrev pub sitesOf : List ℕ → ℕ → Tables
 sitesOf sites n = tables [] [] [] [] [] sites n 0 0
 
 -- "each 5, 6, 10", of one arc
-abbrev pub arcFaultOf : Limits → List ℤ → List ℤ → ℕ → ℕ → ℕ → ℕ → ℕ
+unfoldable pub arcFaultOf : Limits → List ℤ → List ℤ → ℕ → ℕ → ℕ → ℕ → ℕ
 arcFaultOf L xs ys n u v w = orElse (entryFault L n (Arc u v w)) (cond (longEnough (entry xs) (entry ys) (u - 1) (v - 1) w) 0 arcShort)
 
 -- all coordinates are in range, once all points have passed
@@ -38,5 +38,5 @@ abbrev pub AllPlaced : List ℤ → List ℤ → ℕ → Type 0
 AllPlaced xs ys n = (v : ℕ) → v < n → Placed xs ys v
 
 -- "then coordinates by node .. then arcs in order .. then sites in order"
-abbrev pub ofEntries : Limits → Tables → Verdict
+unfoldable pub ofEntries : Limits → Tables → Verdict
 ofEntries L t = andThen (firstFault (pointFault L t) (t .n)) (andThen (firstFault (arcFault L t) (t .m)) (firstFault (siteFault L t) (t .s)))

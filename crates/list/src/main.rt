@@ -16,6 +16,14 @@ fn number(x: usize) {
     io::print_decimal(STDOUT_FILENO, x as u64);
 }
 
+fn node(x: u16) {
+    number(x as usize);
+}
+
+fn metres(x: u32) {
+    number(x as usize);
+}
+
 fn tell(w: &[u8]) {
     io::write_all(STDERR_FILENO, w);
 }
@@ -80,7 +88,7 @@ fn load(name: &[u8], text: &mut [u8]) -> usize
 fn route(nodes: &[u16]) {
     let mut i = 0;
     while i < nodes.len() {
-        number(nodes[i] as usize);
+        node(nodes[i]);
         i += 1;
     }
 }
@@ -97,8 +105,8 @@ fn lines(count: usize, listed: &[u16], lengths: &[u32], ends: &[u16], routes: &[
         }
         word(b"r");
         number(i + 1);
-        number(listed[i] as usize);
-        number(lengths[i] as usize);
+        node(listed[i]);
+        metres(lengths[i]);
         route(search::route(routes, ends, i + 1));
         word(b"\n");
         i += 1;
@@ -116,7 +124,7 @@ fn ask(
     n: usize,
     m: usize,
     s: usize,
-    query: usize,
+    query: u16,
     aloud: bool,
     work: &mut [u32],
 ) -> bool {
@@ -134,7 +142,7 @@ fn ask(
         n,
         m,
         s,
-        query,
+        query as usize,
         work,
         &mut listed,
         &mut lengths,
@@ -147,7 +155,7 @@ fn ask(
         }
         Answer::Listed { sites, taken } => {
             word(b"q");
-            number(query);
+            node(query);
             number(sites);
             number(taken);
             word(b"\n");
@@ -171,8 +179,8 @@ fn queries(
     asked: &[u16],
     count: usize,
     aloud: bool,
+    work: &mut [u32],
 ) {
-    let mut work = [0u32; 4096];
     let mut i = 0;
     while i < count {
         if asked.len() <= i {
@@ -188,9 +196,9 @@ fn queries(
             n,
             m,
             s,
-            asked[i] as usize,
+            asked[i],
             aloud,
-            &mut work,
+            work,
         ) {
             return;
         }
@@ -213,6 +221,7 @@ fn with_sites(
     text: &mut [u8],
 ) {
     let mut asked = [0u16; 128];
+    let mut work = [0u32; 4096];
     let got = load(b"ask.ss", text);
     match readers::read_sites(&text[..got], n, &mut asked) {
         Read::Refused { number, place } => refused(aloud, b"ask.ss", b", line ", number, place),
@@ -229,6 +238,7 @@ fn with_sites(
             &asked,
             rows,
             aloud,
+            &mut work,
         ),
     }
 }

@@ -39,3 +39,6 @@ pub mod Demands
 pub mod Stretches
 pub mod Independent
 pub mod Cases
+-- the calls as C and Rust make them: how far a refusal's place reaches, and the number that an answer is
+pub mod Places
+pub mod Boundary

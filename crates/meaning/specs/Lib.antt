@@ -26,3 +26,5 @@ pub mod Route
 pub mod Listing
 -- the outcome of the search, the panel call and the stretch
 pub mod Search
+-- the calls as C and Rust make them, with an answer in one number
+pub mod Boundary

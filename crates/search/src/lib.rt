@@ -63,6 +63,7 @@ fn run(
         (now (work .entry)) (now (listed .entry)) (now (lengths .entry)) (now (work .exit)) (now (listed .exit)) (now (lengths .exit)) (r .sites) (r .taken) ⌝ }
 {
     taking::start(xs, ys, sites, n, s, query - 1, work);
+    let grouped = taking::grouped(tails, m);
     let mut count = 0;
     let mut taken = 0;
     while taken < n {
@@ -75,7 +76,20 @@ fn run(
         let Next::Node(u) = memory::least_open(work, n) else {
             break;
         };
-        let site = taking::take(tails, heads, weights, xs, ys, sites, n, m, s, u, work);
+        let site = taking::take(
+            tails,
+            heads,
+            weights,
+            xs,
+            ys,
+            sites,
+            n,
+            m,
+            s,
+            grouped,
+            u,
+            work,
+        );
         count = list(work, n, u, site, listed, lengths, count);
         taken += 1;
     }

@@ -2,7 +2,8 @@
 use mathlib.Core.Bool.{Bool, true, false, not, cond}
 use mathlib.Core.List.{List, []}
 use mathlib.Core.Path.{_≡_, refl, _∙_}
-use Prim.Native.Nat.{ℕ, suc, _+_, _-_, _*_, _≤_, _<_}
+use Prim.Native.Nat.{ℕ, zero, suc, _+_, _-_, _*_, _≤_, _<_}
+use native.Mathlib.Decide.{decLt}
 use native.Mathlib.Numerals.{add-one}
 use native.Mathlib.Omega.{arith}
 use borrow.Author.Tests.{eq-eqb, ne-eqb}
@@ -16,6 +17,7 @@ use Rattle.memory.specs.Memory.{Holds, isTaken, rivalOf}
 use Rattle.memory.specs.Aim.{Ground, siteIn, lineTo}
 use Rattle.memory.proofs.Lines.{line-is}
 use Rattle.memory.proofs.Writes.{held-none, held-open, held-same}
+use Rattle.taking.specs.Ways.{Spanned}
 use Rattle.taking.specs.Parents.{parentAt, parentBy, parentsTo, parents1}
 use Rattle.taking.specs.Steps.{places, Live, reached, Reached, Relaxed, Closed, Took}
 use Rattle.taking.proofs.Reaching.{unseen-not-taken, with-own}
@@ -63,7 +65,7 @@ pub record Following (t : Tables) (u i : ℕ) (w w' : List ℕ) : Type 0 where
   pub size : length w' ≡ length w
   pub done : Relaxed t u i w w'
 
-pub follow-none : (t : Tables) (u : ℕ) (w : List ℕ) → Following t u 0 w w
+follow-none : (t : Tables) (u : ℕ) (w : List ℕ) → Following t u 0 w w
 unfolding relaxTo parentsTo
 follow-none t u w = record { below = omega arith; size = refl; done = λ s from rest H k. H }
 
@@ -93,8 +95,22 @@ module _ (t : Tables) (u i : ℕ) (w w₁ : List ℕ) (below : i < t .m) (r : Fo
           let from₁ = parentsTo (regionOf t) (taken s) (s .best) u d from i in
           head-reached t u d i s₁ from₁ rest w₂ (omega arith) (rw c at (x s₁ from₁ rest (omega arith) (r .done s from rest H k)))
 
-pub follow-all : (t : Tables) (u i : ℕ) (w w' : List ℕ) → t .m ≤ i → Following t u i w w' → Relaxed t u (t .m) w w'
-follow-all t u i w w' l r = let e : i ≡ t .m = omega (arith, r .below) in rw e at (r .done)
+module _ (t : Tables) (u : ℕ) (w : List ℕ) (low : (x : ℕ) → x < t .m → 1 ≤ getD (t .tails) x 0) where
+  -- the arcs from i to before j are other nodes'
+  follow-past : (i j : ℕ) (w₁ : List ℕ) → i ≤ j → j ≤ t .m → ((x : ℕ) → i ≤ x → x < j → getD (t .tails) x 0 ≡ u + 1 → ⊥) → Following t u i w w₁ → Following t u j w w₁
+  follow-past i zero w₁ l h z r = let e : i ≡ 0 = omega arith in rw e at r
+  follow-past i (suc j) w₁ l h z r = go (decLt i (suc j)) (λ k. follow-past i j w₁ k (omega arith) (λ x a b. z x a (omega arith)) r)
+    where
+      go : Dec (i < suc j) → (i ≤ j → Following t u j w w₁) → Following t u (suc j) w w₁
+      go (yes k) f = rw (add-one j) at (follow-other t u j w w₁ h (f (omega arith)) (low j h) (z j (omega arith) (omega arith)))
+      go (no k) f = let e : i ≡ suc j = omega arith in rw e at r
+
+  module _ (begin end : ℕ) (span : Spanned (t .tails) (t .m) (u + 1) begin end) where
+    pub follow-first : Following t u begin w w
+    follow-first = follow-past 0 begin w (omega arith) (span .begin-most) (λ x a b. span .before x b) (follow-none t u w)
+
+    pub follow-all : (i : ℕ) (w' : List ℕ) → end ≤ i → Following t u i w w' → Relaxed t u (t .m) w w'
+    follow-all i w' l r = follow-past i (t .m) w' (r .below) (omega arith) (λ x a b. span .after x (omega arith) b) r .done
 
 -- ---- a node taken
 

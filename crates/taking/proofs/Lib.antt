@@ -4,3 +4,5 @@ pub mod Parents
 mod Reaching
 mod Renewing
 mod Following
+-- arcs in the order of their tails, and the bisection
+mod Grouping

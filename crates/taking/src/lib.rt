@@ -6,8 +6,11 @@ ghost use Rattle.meaning.specs.Region.{tables, regionOf};
 ghost use Rattle.meaning.specs.Taking.{start as startOf};
 ghost use Rattle.memory.specs.Memory.{SiteTold};
 ghost use Rattle.memory.specs.Aim.{Ground};
-ghost use Rattle.taking.specs.Ways.{Arcs, Bounded};
+ghost use Rattle.taking.specs.Ways.{Arcs, Bounded, Grouped};
 ghost use Rattle.taking.specs.Steps.{places, Live, Arrived, Reached, Relaxed, SameLens, RenewedAt, Renewed, Closed, Took};
+pub use group::grouped;
+
+mod group;
 
 // The search starts with the query node open at length 0.
 pub fn start(xs: &[i32], ys: &[i32], sites: &[u16], n: usize, s: usize, q: usize, work: &mut [u32])
@@ -78,7 +81,7 @@ fn reach(
     shorten(work, n, u, h, at);
 }
 
-// The heads of u's arcs are opened or shortened.
+// The heads of u's arcs are opened or shortened. Where the arcs are grouped, only those of u are looked at.
 fn relax(
     tails: &[u16],
     heads: &[u16],
@@ -89,20 +92,24 @@ fn relax(
     n: usize,
     m: usize,
     s: usize,
+    grouped: bool,
     u: usize,
     work: &mut [u32],
 )
     requires { ⌜ (4 * n ≤ length (now work)) × (u < n) ⌝ }
     requires { ⌜ Ground (now xs) (now ys) (now sites) n s ⌝ }
     requires { ⌜ Arcs (now tails) (now heads) (now weights) n m ⌝ }
+    requires { ⌜ Grouped (now tails) m grouped ⌝ }
     requires { ⌜ Bounded n 4000000000 (now work) ⌝ }
     ensures { λ r. ⌜ Relaxed (tables (now (tails .entry)) (now (heads .entry)) (now (weights .entry)) (now (xs .entry)) (now (ys .entry)) (now (sites .entry)) n m s) u m
         (now (work .entry)) (now (work .exit)) ⌝ }
 {
     let number = (u + 1) as u16;
     let from = work[u];
-    let mut i = 0;
-    while i < m {
+    let span = group::arcs_of(tails, m, number, grouped);
+    let end = span.end;
+    let mut i = span.begin;
+    while i < end {
         if tails[i] != number {
             i += 1;
             continue;
@@ -176,18 +183,33 @@ pub fn take(
     n: usize,
     m: usize,
     s: usize,
+    grouped: bool,
     u: usize,
     work: &mut [u32],
 ) -> bool
     requires { ⌜ (4 * n ≤ length (now work)) × (u < n) ⌝ }
     requires { ⌜ Ground (now xs) (now ys) (now sites) n s ⌝ }
     requires { ⌜ Arcs (now tails) (now heads) (now weights) n m ⌝ }
+    requires { ⌜ Grouped (now tails) m grouped ⌝ }
     requires { ⌜ Bounded n 4000000000 (now work) ⌝ }
     ensures { λ r. ⌜ SiteTold n (now (work .entry)) u r ⌝ }
     ensures { λ r. ⌜ Took (tables (now (tails .entry)) (now (heads .entry)) (now (weights .entry)) (now (xs .entry)) (now (ys .entry)) (now (sites .entry)) n m s) u
         (now (work .entry)) (now (work .exit)) ⌝ }
 {
     let site = close(xs, ys, sites, n, s, u, work);
-    relax(tails, heads, weights, xs, ys, sites, n, m, s, u, work);
+    relax(
+        tails,
+        heads,
+        weights,
+        xs,
+        ys,
+        sites,
+        n,
+        m,
+        s,
+        grouped,
+        u,
+        work,
+    );
     site
 }

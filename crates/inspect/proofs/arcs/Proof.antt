@@ -1,11 +1,10 @@
 use borrow.Author.Needs.{needs}
-use mathlib.Core.Path.{_≡_, refl, sym, _∙_}
+use mathlib.Core.Path.{_≡_, refl}
 use Prim.Native.Nat.{_-_, _≤_}
 use native.Mathlib.Omega.{arith}
-use denote.Ref.{now}
 use Rattle.meaning.specs.Checks.{firstFault, arcFault}
 use Rattle.meaning.specs.declared.Verdict.the-variants.{Fine}
-use Rattle.inspect.specs.Columns.{arcsOf}
+use Rattle.inspect.specs.Columns.{arcsOf, arcFaultOf}
 use Rattle.inspect.proofs.Faults.{first-more, first-at, first-none}
 use Rattle.inspect.proofs.arcs.Statement.{statement}
 use Rattle.inspect.proofs.arcs.Tie as tie
@@ -51,11 +50,10 @@ add-t23 : tie.Need-add-t23 Inv-loop μ-loop
 add-t23 c = search needs
 
 returns : tie.Need-returns Inv-loop μ-loop
-unfolding arcFault
+unfolding arcFault arcFaultOf
 returns c =
-    let loop = c .before .before .before .before .before .before in
-    let a = loop .before .before .before .before .args in
-    first-at (arcFault (a .limits) (arcsOf (now (a .tails)) (now (a .heads)) (now (a .weights)) (now (a .xs)) (now (a .ys)) (a .n))) (loop .loop .i) (a .m) _ (omega arith) (loop .loop .inv .1) (c .before .arc-fault .ensures) (c .if1 .taken)
+    let test = c .before .before .before .before .before in
+    first-at _ _ _ _ (test .loop-test .taken) (test .before .loop .inv .1) (c .before .arc-fault .ensures) (c .if1 .taken)
 
 add-i : tie.Need-add-i Inv-loop μ-loop
 add-i c = search needs
@@ -64,17 +62,13 @@ loop-less : tie.Need-loop-less Inv-loop μ-loop
 loop-less c = search needs
 
 loop-again : tie.Need-loop-again Inv-loop μ-loop
-unfolding arcFault
+unfolding arcFault arcFaultOf
 loop-again c =
-    let loop = c .before .before .before .before .before .before in
-    let a = loop .before .before .before .before .args in
-    (omega arith, first-more (arcFault (a .limits) (arcsOf (now (a .tails)) (now (a .heads)) (now (a .weights)) (now (a .xs)) (now (a .ys)) (a .n))) (loop .loop .i) (loop .loop .inv .1) (sym (c .before .arc-fault .ensures) ∙ c .if1 .left))
+    let loop = c .before .before .before .before .before .before .loop in
+    (omega arith, first-more _ _ _ (loop .inv .1) (c .before .arc-fault .ensures) (c .if1 .left))
 
 returns-2 : tie.Need-returns-2 Inv-loop μ-loop
-returns-2 c =
-    let loop = c .before .loop in
-    let a = c .before .before .before .before .before .args in
-    first-none (arcFault (a .limits) (arcsOf (now (a .tails)) (now (a .heads)) (now (a .weights)) (now (a .xs)) (now (a .ys)) (a .n))) (loop .i) (a .m) (loop .inv .0) (c .loop-test .left) (loop .inv .1)
+returns-2 c = first-none _ _ _ (c .before .loop .inv .0) (c .loop-test .left) (c .before .loop .inv .1)
 
 pub arcs-spec : {M : Type 1} → statement M
 arcs-spec =

@@ -1,10 +1,9 @@
 use borrow.Author.Needs.{needs}
-use mathlib.Core.Path.{sym, _∙_}
+use mathlib.Core.Path.{_∙_}
 use denote.Ref.{now}
 use Rattle.meaning.specs.Region.{tables}
-use Rattle.meaning.specs.Checks.{siteFault}
 use Rattle.inspect.proofs.Laws.{tables-long, points-placed}
-use Rattle.inspect.proofs.Order.{then-first, then-later, points-are, arcs-are}
+use Rattle.inspect.proofs.Order.{points-are, at-point, at-arc, at-site}
 use Rattle.inspect.proofs.entries.Statement.{statement}
 use Rattle.inspect.proofs.entries.Tie as tie
 
@@ -24,9 +23,7 @@ enum-known-by-point c = search needs
 returns : tie.Need-returns
 returns c =
     let points = c .before .before .before in
-    let start = points .before .before .before .before .before .before in
-    let a = start .args in
-    then-first _ (points-are (tables (now (a .tails)) (now (a .heads)) (now (a .weights)) (now (a .xs)) (now (a .ys)) (now (a .sites)) (a .n) (a .m) (a .s)) _ (points .before .base .ensures) _ (points .points .ensures)) (c .before .by-point .given .1)
+    at-point _ (points .before .base .ensures) (points .points .ensures) (c .before .by-point .given .1)
 
 enum-told : tie.Need-enum-told
 enum-told c = search needs
@@ -36,9 +33,11 @@ arcs-requires c κs =
     let points = c .before .before in
     let start = points .before .before .before .before .before .before in
     let a = start .args in
-    let long = tables-long (tables (now (a .tails)) (now (a .heads)) (now (a .weights)) (now (a .xs)) (now (a .ys)) (now (a .sites)) (a .n) (a .m) (a .s)) (start .pre) in
-    let fine = points-are (tables (now (a .tails)) (now (a .heads)) (now (a .weights)) (now (a .xs)) (now (a .ys)) (now (a .sites)) (a .n) (a .m) (a .s)) _ (points .before .base .ensures) _ (points .points .ensures) in
-    ((long .tails, long .heads, long .weights), points-placed (tables (now (a .tails)) (now (a .heads)) (now (a .weights)) (now (a .xs)) (now (a .ys)) (now (a .sites)) (a .n) (a .m) (a .s)) long (sym fine ∙ c .enum-told .given .1))
+    let t = tables (now (a .tails)) (now (a .heads)) (now (a .weights)) (now (a .xs)) (now (a .ys)) (now (a .sites)) (a .n) (a .m) (a .s) in
+    let long = tables-long t (start .pre) in (
+      (long .tails, long .heads, long .weights),
+      points-placed t long (points-are t (points .before .base .ensures) (points .points .ensures) ∙ c .enum-told .given .1),
+    )
 
 enum-known-by-arc : tie.Need-enum-known-by-arc
 enum-known-by-arc c = search needs
@@ -47,11 +46,7 @@ returns-2 : tie.Need-returns-2
 returns-2 c =
     let arcs = c .before .before .before in
     let points = arcs .before .before .before in
-    let start = points .before .before .before .before .before .before in
-    let a = start .args in
-    let h = points .before .base .ensures in
-    then-later (points-are (tables (now (a .tails)) (now (a .heads)) (now (a .weights)) (now (a .xs)) (now (a .ys)) (now (a .sites)) (a .n) (a .m) (a .s)) _ h _ (points .points .ensures)) (arcs .before .enum-told .given .1)
-    (then-first _ (arcs-are (tables (now (a .tails)) (now (a .heads)) (now (a .weights)) (now (a .xs)) (now (a .ys)) (now (a .sites)) (a .n) (a .m) (a .s)) _ h _ (arcs .arcs .ensures)) (c .before .by-arc .given .1))
+    at-arc _ (points .before .base .ensures) (points .points .ensures) (arcs .before .enum-told .given .1) (arcs .arcs .ensures) (c .before .by-arc .given .1)
 
 enum-told-2 : tie.Need-enum-told-2
 enum-told-2 c = search needs
@@ -63,15 +58,10 @@ stands-requires c κs =
     tables-long (tables (now (a .tails)) (now (a .heads)) (now (a .weights)) (now (a .xs)) (now (a .ys)) (now (a .sites)) (a .n) (a .m) (a .s)) (start .pre) .sites
 
 returns-3 : tie.Need-returns-3
-unfolding siteFault
 returns-3 c =
     let arcs = c .before .before .before in
     let points = arcs .before .before .before in
-    let start = points .before .before .before .before .before .before in
-    let a = start .args in
-    let h = points .before .base .ensures in
-    then-later (points-are (tables (now (a .tails)) (now (a .heads)) (now (a .weights)) (now (a .xs)) (now (a .ys)) (now (a .sites)) (a .n) (a .m) (a .s)) _ h _ (points .points .ensures)) (arcs .before .enum-told .given .1)
-    (then-later (arcs-are (tables (now (a .tails)) (now (a .heads)) (now (a .weights)) (now (a .xs)) (now (a .ys)) (now (a .sites)) (a .n) (a .m) (a .s)) _ h _ (arcs .arcs .ensures)) (c .before .enum-told2 .given .1) (c .stands .ensures))
+    at-site _ (points .before .base .ensures) (points .points .ensures) (arcs .before .enum-told .given .1) (arcs .arcs .ensures) (c .before .enum-told2 .given .1) (c .stands .ensures)
 
 pub entries-spec : {M : Type 1} → statement M
 entries-spec =

@@ -1,8 +1,7 @@
 use borrow.Author.Needs.{needs}
-use denote.Ref.{now}
-use Rattle.meaning.specs.Region.{tables, rooms}
-use Rattle.meaning.proofs.Tests.{within-is}
-use Rattle.inspect.proofs.Order.{counts-are, counts-most, k-is, came, went, no-counts, no-tables, no-query, no-k, no-rooms, to-entries}
+use borrow.Author.Tests.{not-false}
+use mathlib.Core.Path.{sym, _∙_}
+use Rattle.inspect.proofs.Order.{sizes, no-counts, no-tables, no-query, no-k, no-rooms, to-entries}
 use Rattle.inspect.proofs.inspect.Statement.{statement}
 use Rattle.inspect.proofs.inspect.Tie as tie
 
@@ -14,11 +13,7 @@ counts-fit-requires c κs = search needs
 
 returns : tie.Need-returns
 returns c =
-    let base = c .before .before in
-    let a = base .before .before .before .before .before .before .before .before .before .before .args in
-    let t = tables (now (a .tails)) (now (a .heads)) (now (a .weights)) (now (a .xs)) (now (a .ys)) (now (a .sites)) (a .n) (a .m) (a .s) in
-    no-counts t (a .query) (a .k) (rooms (now (a .work)) (now (a .listed)) (now (a .lengths)) (now (a .ends)) (now (a .routes)))
-    (went (counts-are t _ (base .base .ensures) _ (c .before .counts-fit .ensures)) (c .if1 .taken))
+    no-counts _ _ _ _ (c .before .before .base .ensures) (c .before .counts-fit .ensures) (c .if1 .taken)
 
 tables-fit-requires : tie.Need-tables-fit-requires
 tables-fit-requires c κs = search needs
@@ -26,12 +21,7 @@ tables-fit-requires c κs = search needs
 returns-2 : tie.Need-returns-2
 returns-2 c =
     let if1 = c .before .before in
-    let base = if1 .before .before in
-    let a = base .before .before .before .before .before .before .before .before .before .before .args in
-    let t = tables (now (a .tails)) (now (a .heads)) (now (a .weights)) (now (a .xs)) (now (a .ys)) (now (a .sites)) (a .n) (a .m) (a .s) in
-    no-tables t (a .query) (a .k) (rooms (now (a .work)) (now (a .listed)) (now (a .lengths)) (now (a .ends)) (now (a .routes)))
-    (came (counts-are t _ (base .base .ensures) _ (if1 .before .counts-fit .ensures)) (if1 .if1 .left))
-    (went (c .before .tables-fit .ensures) (c .if2 .taken))
+    no-tables _ _ _ _ (if1 .before .before .base .ensures) (if1 .before .counts-fit .ensures) (if1 .if1 .left) (c .before .tables-fit .ensures) (c .if2 .taken)
 
 within-requires : tie.Need-within-requires
 within-requires c κs = search needs
@@ -40,13 +30,7 @@ returns-3 : tie.Need-returns-3
 returns-3 c =
     let if2 = c .before .before in
     let if1 = if2 .before .before in
-    let base = if1 .before .before in
-    let a = base .before .before .before .before .before .before .before .before .before .before .args in
-    let t = tables (now (a .tails)) (now (a .heads)) (now (a .weights)) (now (a .xs)) (now (a .ys)) (now (a .sites)) (a .n) (a .m) (a .s) in
-    no-query t (a .query) (a .k) (rooms (now (a .work)) (now (a .listed)) (now (a .lengths)) (now (a .ends)) (now (a .routes)))
-    (came (counts-are t _ (base .base .ensures) _ (if1 .before .counts-fit .ensures)) (if1 .if1 .left))
-    (came (if2 .before .tables-fit .ensures) (if2 .if2 .left))
-    (went (c .before .within .ensures) (c .if3 .taken))
+    no-query _ _ _ _ (if1 .before .before .base .ensures) (if1 .before .counts-fit .ensures) (if1 .if1 .left) (if2 .before .tables-fit .ensures) (if2 .if2 .left) (c .before .within .ensures) (c .if3 .taken)
 
 within-requires-2 : tie.Need-within-requires-2
 within-requires-2 c κs = search needs
@@ -56,24 +40,14 @@ returns-4 c =
     let if3 = c .before .before in
     let if2 = if3 .before .before in
     let if1 = if2 .before .before in
-    let base = if1 .before .before in
-    let a = base .before .before .before .before .before .before .before .before .before .before .args in
-    let t = tables (now (a .tails)) (now (a .heads)) (now (a .weights)) (now (a .xs)) (now (a .ys)) (now (a .sites)) (a .n) (a .m) (a .s) in
-    no-k t (a .query) (a .k) (rooms (now (a .work)) (now (a .listed)) (now (a .lengths)) (now (a .ends)) (now (a .routes)))
-    (came (counts-are t _ (base .base .ensures) _ (if1 .before .counts-fit .ensures)) (if1 .if1 .left))
-    (came (if2 .before .tables-fit .ensures) (if2 .if2 .left))
-    (came (if3 .before .within .ensures) (if3 .if3 .left))
-    (went (k-is t _ (base .base .ensures) (a .k) _ (c .before .within2 .ensures)) (c .if4 .taken))
+    no-k _ _ _ _ (if1 .before .before .base .ensures) (if1 .before .counts-fit .ensures) (if1 .if1 .left) (if2 .before .tables-fit .ensures) (if2 .if2 .left) (if3 .before .within .ensures) (if3 .if3 .left) (c .before .within2 .ensures) (c .if4 .taken)
 
 rooms-fit-requires : tie.Need-rooms-fit-requires
 rooms-fit-requires c κs =
-    let if3 = c .before .before in
-    let if2 = if3 .before .before in
-    let if1 = if2 .before .before in
+    let if1 = c .before .before .before .before .before .before in
     let base = if1 .before .before in
     let a = base .before .before .before .before .before .before .before .before .before .before .args in
-    let t = tables (now (a .tails)) (now (a .heads)) (now (a .weights)) (now (a .xs)) (now (a .ys)) (now (a .sites)) (a .n) (a .m) (a .s) in
-    (counts-most t (came (counts-are t _ (base .base .ensures) _ (if1 .before .counts-fit .ensures)) (if1 .if1 .left)), within-is 1 (a .k) 32 (came (k-is t _ (base .base .ensures) (a .k) _ (c .before .within2 .ensures)) (c .if4 .left)) .1)
+    sizes (a .n) (a .m) (a .s) (a .k) (base .base .ensures) (if1 .before .counts-fit .ensures) (if1 .if1 .left) (c .before .within2 .ensures) (c .if4 .left)
 
 returns-5 : tie.Need-returns-5
 returns-5 c =
@@ -81,20 +55,12 @@ returns-5 c =
     let if3 = if4 .before .before in
     let if2 = if3 .before .before in
     let if1 = if2 .before .before in
-    let base = if1 .before .before in
-    let a = base .before .before .before .before .before .before .before .before .before .before .args in
-    let t = tables (now (a .tails)) (now (a .heads)) (now (a .weights)) (now (a .xs)) (now (a .ys)) (now (a .sites)) (a .n) (a .m) (a .s) in
-    no-rooms t (a .query) (a .k) (rooms (now (a .work)) (now (a .listed)) (now (a .lengths)) (now (a .ends)) (now (a .routes)))
-    (came (counts-are t _ (base .base .ensures) _ (if1 .before .counts-fit .ensures)) (if1 .if1 .left))
-    (came (if2 .before .tables-fit .ensures) (if2 .if2 .left))
-    (came (if3 .before .within .ensures) (if3 .if3 .left))
-    (came (k-is t _ (base .base .ensures) (a .k) _ (if4 .before .within2 .ensures)) (if4 .if4 .left))
-    (went (c .before .rooms-fit .ensures) (c .if5 .taken))
+    no-rooms _ _ _ _ (if1 .before .before .base .ensures) (if1 .before .counts-fit .ensures) (if1 .if1 .left) (if2 .before .tables-fit .ensures) (if2 .if2 .left) (if3 .before .within .ensures) (if3 .if3 .left) (if4 .before .within2 .ensures) (if4 .if4 .left) (c .before .rooms-fit .ensures) (c .if5 .taken)
 
 entries-requires : tie.Need-entries-requires
 entries-requires c κs =
     let if2 = c .before .before .before .before .before .before in
-    came (if2 .before .tables-fit .ensures) (if2 .if2 .left)
+    sym (if2 .before .tables-fit .ensures) ∙ not-false (if2 .before .tables-fit .result) (if2 .if2 .left)
 
 returns-6 : tie.Need-returns-6
 returns-6 c =
@@ -103,16 +69,7 @@ returns-6 c =
     let if3 = if4 .before .before in
     let if2 = if3 .before .before in
     let if1 = if2 .before .before in
-    let base = if1 .before .before in
-    let a = base .before .before .before .before .before .before .before .before .before .before .args in
-    let t = tables (now (a .tails)) (now (a .heads)) (now (a .weights)) (now (a .xs)) (now (a .ys)) (now (a .sites)) (a .n) (a .m) (a .s) in
-    to-entries t (a .query) (a .k) (rooms (now (a .work)) (now (a .listed)) (now (a .lengths)) (now (a .ends)) (now (a .routes)))
-    (came (counts-are t _ (base .base .ensures) _ (if1 .before .counts-fit .ensures)) (if1 .if1 .left))
-    (came (if2 .before .tables-fit .ensures) (if2 .if2 .left))
-    (came (if3 .before .within .ensures) (if3 .if3 .left))
-    (came (k-is t _ (base .base .ensures) (a .k) _ (if4 .before .within2 .ensures)) (if4 .if4 .left))
-    (came (if5 .before .rooms-fit .ensures) (if5 .if5 .left))
-    (c .entries .ensures)
+    to-entries _ _ _ _ (if1 .before .before .base .ensures) (if1 .before .counts-fit .ensures) (if1 .if1 .left) (if2 .before .tables-fit .ensures) (if2 .if2 .left) (if3 .before .within .ensures) (if3 .if3 .left) (if4 .before .within2 .ensures) (if4 .if4 .left) (if5 .before .rooms-fit .ensures) (if5 .if5 .left) (c .entries .ensures)
 
 pub inspect-spec : {M : Type 1} → statement M
 inspect-spec =

@@ -1,8 +1,7 @@
 use borrow.Author.Needs.{needs}
-use mathlib.Core.Path.{_≡_, refl, sym, _∙_}
+use mathlib.Core.Path.{_≡_, refl}
 use Prim.Native.Nat.{_-_, _≤_}
 use native.Mathlib.Omega.{arith}
-use denote.Ref.{now}
 use Rattle.meaning.specs.Checks.{firstFault, pointFault}
 use Rattle.meaning.specs.declared.Verdict.the-variants.{Fine}
 use Rattle.inspect.specs.Columns.{pointsOf}
@@ -42,10 +41,8 @@ add-t14 c = search needs
 returns : tie.Need-returns Inv-loop μ-loop
 returns c =
     let arg = c .before .before .before in
-    let loop = arg .before .before in
-    let a = loop .before .args in
-    let e = point-is (a .limits) (now (a .xs)) (now (a .ys)) (a .n) (loop .loop .v) (record { sfits = arg .point-fault-arg .given }) (record { sfits = c .before .before .point-fault-arg2 .given }) (c .before .point-fault .ensures) in
-    first-at (pointFault (a .limits) (pointsOf (now (a .xs)) (now (a .ys)) (a .n))) (loop .loop .v) (a .n) _ (omega arith) (loop .loop .inv .1) e (c .if1 .taken)
+    first-at _ _ _ _ (arg .before .loop-test .taken) (arg .before .before .loop .inv .1)
+    (point-is _ _ _ _ _ (record { sfits = arg .point-fault-arg .given }) (record { sfits = c .before .before .point-fault-arg2 .given }) (c .before .point-fault .ensures)) (c .if1 .taken)
 
 add-v : tie.Need-add-v Inv-loop μ-loop
 add-v c = search needs
@@ -55,17 +52,14 @@ loop-less c = search needs
 
 loop-again : tie.Need-loop-again Inv-loop μ-loop
 loop-again c =
-    let arg = c .before .before .before in
-    let loop = arg .before .before in
-    let a = loop .before .args in
-    let e = point-is (a .limits) (now (a .xs)) (now (a .ys)) (a .n) (loop .loop .v) (record { sfits = arg .point-fault-arg .given }) (record { sfits = c .before .before .point-fault-arg2 .given }) (c .before .point-fault .ensures) in
-    (omega arith, first-more (pointFault (a .limits) (pointsOf (now (a .xs)) (now (a .ys)) (a .n))) (loop .loop .v) (loop .loop .inv .1) (sym e ∙ c .if1 .left))
+    let arg = c .before .before .before in (
+      omega arith,
+      first-more _ _ _ (arg .before .before .loop .inv .1)
+          (point-is _ _ _ _ _ (record { sfits = arg .point-fault-arg .given }) (record { sfits = c .before .before .point-fault-arg2 .given }) (c .before .point-fault .ensures)) (c .if1 .left),
+    )
 
 returns-2 : tie.Need-returns-2 Inv-loop μ-loop
-returns-2 c =
-    let loop = c .before .loop in
-    let a = c .before .before .args in
-    first-none (pointFault (a .limits) (pointsOf (now (a .xs)) (now (a .ys)) (a .n))) (loop .v) (a .n) (loop .inv .0) (c .loop-test .left) (loop .inv .1)
+returns-2 c = first-none _ _ _ (c .before .loop .inv .0) (c .loop-test .left) (c .before .loop .inv .1)
 
 pub points-spec : {M : Type 1} → statement M
 points-spec =

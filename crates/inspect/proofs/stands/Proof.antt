@@ -46,8 +46,9 @@ add-t14 : tie.Need-add-t14 Inv-loop μ-loop Inv-entries μ-entries
 add-t14 c = search needs
 
 loop-holds : tie.Need-loop-holds Inv-loop μ-loop Inv-entries μ-entries
-loop-holds c = let entries = c .before .before .before .before in
-    let a = entries .before .before .args in (omega arith, among-none (now (a .sites)) _)
+loop-holds c =
+    let entries = c .before .before .before .before in
+    (omega arith, among-none (now (entries .before .before .args .sites)) _)
 
 mul-earlier : tie.Need-mul-earlier Inv-loop μ-loop Inv-entries μ-entries
 mul-earlier c = search needs
@@ -71,8 +72,8 @@ loop-less c = search needs
 loop-again : tie.Need-loop-again Inv-loop μ-loop Inv-entries μ-entries
 loop-again c =
     let loop = c .before .before .before in
-    let a = loop .before .before .before .before .before .before .before .args in
-    (omega arith, among-more (now (a .sites)) _ (loop .loop .i) (loop .loop .inv .1) (c .if3 .left))
+    let entries = loop .before .before .before .before .before in
+    (omega arith, among-more (now (entries .before .before .args .sites)) _ (loop .loop .i) (loop .loop .inv .1) (c .if3 .left))
 
 add-j : tie.Need-add-j Inv-loop μ-loop Inv-entries μ-entries
 add-j c = search needs
@@ -85,38 +86,29 @@ entries-again c =
     let loop = c .before .loop in
     let within = c .before .before .before in
     let entries = within .before .before .before in
-    let a = entries .before .before .args in
-    let j = entries .entries .j in
-    let all : loop .i ≡ j = omega arith in (
+    let all : loop .i ≡ entries .entries .j = omega arith in (
       omega arith,
-      first-more (siteFault base (sitesOf (now (a .sites)) (a .n))) j (entries .entries .inv .1)
-          (site-fine (now (a .sites)) (a .n) j (sym (within .within .ensures) ∙ not-false (within .within .result) (c .before .before .if2 .left)) (rw all at (loop .inv .1))),
+      first-more _ _ _ (entries .entries .inv .1)
+          (site-fine _ _ _ (sym (within .within .ensures) ∙ not-false (within .within .result) (c .before .before .if2 .left)) (rw all at (loop .inv .1))) refl,
     )
 
 returns : tie.Need-returns Inv-loop μ-loop Inv-entries μ-entries
-returns c =
-    let entries = c .before in
-    let a = entries .before .before .args in
-    first-none (siteFault base (sitesOf (now (a .sites)) (a .n))) (entries .entries .j) (a .s) (entries .entries .inv .0) (c .if1 .taken) (entries .entries .inv .1)
+returns c = first-none _ _ _ (c .before .entries .inv .0) (c .if1 .taken) (c .before .entries .inv .1)
 
 returns-2 : tie.Need-returns-2 Inv-loop μ-loop Inv-entries μ-entries
 returns-2 c =
-    let entries = c .before .before .before .before in
-    let a = entries .before .before .args in
-    let j = entries .entries .j in
-    first-at (siteFault base (sitesOf (now (a .sites)) (a .n))) j (a .s) 5 (omega arith) (entries .entries .inv .1)
-    (site-outside (now (a .sites)) (a .n) j (sym (c .before .within .ensures) ∙ not-true (c .before .within .result) (c .if2 .taken))) (λ z. omega arith)
+    let if1 = c .before .before .before in
+    first-at _ _ _ _ (if1 .if1 .left) (if1 .before .entries .inv .1)
+    (site-outside _ _ _ (sym (c .before .within .ensures) ∙ not-true (c .before .within .result) (c .if2 .taken))) (λ z. omega arith)
 
 returns-3 : tie.Need-returns-3 Inv-loop μ-loop Inv-entries μ-entries
 returns-3 c =
     let loop = c .before .before .before in
     let within = loop .before .before in
-    let entries = within .before .before .before in
-    let a = entries .before .before .args in
-    let j = entries .entries .j in
-    first-at (siteFault base (sitesOf (now (a .sites)) (a .n))) j (a .s) 8 (omega arith) (entries .entries .inv .1)
-    (site-twice (now (a .sites)) (a .n) j (sym (within .within .ensures) ∙ not-false (within .within .result) (loop .before .if2 .left))
-    (among-hit (now (a .sites)) _ (loop .loop .i) j (omega arith) (c .if3 .taken))) (λ z. omega arith)
+    let if1 = within .before .before in
+    first-at _ _ _ _ (if1 .if1 .left) (if1 .before .entries .inv .1)
+    (site-twice _ _ _ (sym (within .within .ensures) ∙ not-false (within .within .result) (loop .before .if2 .left))
+    (among-hit (now (if1 .before .before .before .args .sites)) _ (loop .loop .i) _ (c .before .before .loop-test .taken) (c .if3 .taken))) (λ z. omega arith)
 
 pub stands-spec : {M : Type 1} → statement M
 stands-spec =

@@ -1,6 +1,6 @@
 -- The loop's invariant: as many steps of the taking rule have been made as nodes are counted.
 use borrow.Author.Needs.{needs}
-use mathlib.Core.Path.{_≡_, refl, _∙_}
+use mathlib.Core.Path.{_≡_, refl, sym, _∙_}
 use Prim.Native.Nat.{_-_, _<_}
 use native.Mathlib.Numerals.{add-one}
 use native.Mathlib.Omega.{arith}
@@ -13,11 +13,18 @@ use Rattle.search.proofs.run.Statement.{statement}
 use Rattle.search.proofs.run.Tie as tie
 
 abbrev Inv-loop : tie.InvT-loop
-Inv-loop tails heads weights xs ys sites n m s query k work₀ listed₀ lengths₀ count₀ taken₀ work listed lengths count taken =
+Inv-loop tails heads weights xs ys sites n m s query k work₀ listed₀ lengths₀ grouped count₀ taken₀ work listed lengths count taken =
     Going (tables tails heads weights xs ys sites n m s) query k work₀ listed₀ lengths₀ work listed lengths count taken
 
 abbrev μ-loop : tie.MeasureT-loop
-μ-loop tails heads weights xs ys sites n m s query k work₀ listed₀ lengths₀ count₀ taken₀ work listed lengths count taken = n - taken
+μ-loop tails heads weights xs ys sites n m s query k work₀ listed₀ lengths₀ grouped count₀ taken₀ work listed lengths count taken = n - taken
+
+-- from the loop back to what `start` gave, and to the entry
+abbrev opening : tie.At-loop Inv-loop μ-loop → tie.After-start Inv-loop μ-loop
+opening turn = turn .before .before .before .before
+
+abbrev entry : tie.At-loop Inv-loop μ-loop → tie.Start Inv-loop μ-loop
+entry turn = opening turn .before .before .before .before .before .before .before .before .before
 
 sub-start : tie.Need-sub-start Inv-loop μ-loop
 sub-start c = query-low (c .before .before .before .before .before .before .before .pre .0)
@@ -27,8 +34,11 @@ start-requires c κs =
     let p = c .before .before .before .before .before .before .before .before .pre in
     ((p .1 .0, query-below (p .0)), ground (p .0))
 
+grouped-requires : tie.Need-grouped-requires Inv-loop μ-loop
+grouped-requires c κs = arcs (c .before .before .before .before .before .before .before .before .before .before .before .pre .0) .tail-room
+
 loop-holds : tie.Need-loop-holds Inv-loop μ-loop
-loop-holds c = record { most = omega arith; ran = begun (c .before .before .start .ensures); work-kept = refl; listed-kept = refl; lengths-kept = refl }
+loop-holds c = record { most = omega arith; ran = begun (c .before .before .before .start .ensures); work-kept = refl; listed-kept = refl; lengths-kept = refl }
 
 least-open-requires : tie.Need-least-open-requires Inv-loop μ-loop
 least-open-requires c κs = c .before .before .before .before .loop .inv .ran .live .room
@@ -44,10 +54,10 @@ take-requires c κs =
     let picked = c .before .before in
     let looked = picked .before .before in
     let turn = looked .before .before .before .before .before in
-    let s = turn .before .before .before .before .before .before .before .before .before .before .before .before in
+    let s = entry turn in
     let ran = turn .loop .inv .ran in
     let f = first-of (s .pre .0) ran (looked .least-open .ensures) (picked .u .given .1) in
-    ((ran .live .room, f .below), (ground (s .pre .0), (arcs (s .pre .0), bounds (s .pre .0) ran)))
+    ((ran .live .room, f .below), (ground (s .pre .0), (arcs (s .pre .0), ((λ e. sym (turn .before .grouped .ensures) ∙ e), bounds (s .pre .0) ran))))
 
 list-requires : tie.Need-list-requires Inv-loop μ-loop
 list-requires c κs =
@@ -56,10 +66,10 @@ list-requires c κs =
     let looked = picked .before .before in
     let tested = looked .before .before .before in
     let turn = tested .before .before in
-    let s = turn .before .before .before .before .before .before .before .before .before .before .before .before in
+    let s = entry turn in
     let inv = turn .loop .inv in
     let f = first-of (s .pre .0) (inv .ran) (looked .least-open .ensures) (picked .u .given .1) in
-    let kept = took .take .kept .1 .1 .1 .1 .1 .1 .1 .1 .1 .1 .0 in
+    let kept = took .take .kept .1 .1 .1 .1 .1 .1 .1 .1 .1 .1 .1 .0 in
     let room = inv .ran .live .room in
     let under : turn .loop .count < s .args .k = tested .if1 .left in
     ((omega arith, (f .below, few (s .pre .0))), (omega (arith, s .pre, inv), omega (arith, s .pre, inv)))
@@ -67,7 +77,7 @@ list-requires c κs =
 add-taken : tie.Need-add-taken Inv-loop μ-loop
 add-taken c =
     let test = c .before .before .before .before .before .before .before .before .before .before .before .before .before .before .before .before .before .before .before in
-    omega (arith, few (test .before .before .before .before .before .before .before .before .before .before .before .before .before .pre .0), test .loop-test .taken)
+    omega (arith, few (entry (test .before) .pre .0), test .loop-test .taken)
 
 loop-less : tie.Need-loop-less Inv-loop μ-loop
 loop-less c = omega arith
@@ -80,7 +90,7 @@ loop-again c =
     let looked = picked .before .before in
     let tested = looked .before .before .before in
     let turn = tested .before .before in
-    let s = turn .before .before .before .before .before .before .before .before .before .before .before .before in
+    let s = entry turn in
     let inv = turn .loop .inv in
     let under : turn .loop .count < s .args .k = tested .if1 .left in
     let listed : turn .loop .count < length (now (s .args .listed)) = omega (arith, s .pre) in
@@ -91,13 +101,13 @@ loop-again c =
     record {
       most = omega (arith, tested .before .loop-test .taken);
       ran = rw add-one step;
-      work-kept = took .take .kept .1 .1 .1 .1 .1 .1 .1 .1 .1 .1 .0 ∙ inv .work-kept;
+      work-kept = took .take .kept .1 .1 .1 .1 .1 .1 .1 .1 .1 .1 .1 .0 ∙ inv .work-kept;
       listed-kept = listing .list .kept .1 .1 .1 .1 .0 ∙ inv .listed-kept;
       lengths-kept = listing .list .kept .1 .1 .1 .1 .1 .0 ∙ inv .lengths-kept;
     }
 
 same-length : tie.Need-same-length Inv-loop μ-loop
-same-length c = c .before .loop .inv .work-kept ∙ c .before .before .before .before .start .kept .1 .1 .1 .1 .1 .1 .0
+same-length c = c .before .loop .inv .work-kept ∙ opening (c .before) .start .kept .1 .1 .1 .1 .1 .1 .0
 
 same-length-2 : tie.Need-same-length-2 Inv-loop μ-loop
 same-length-2 c = c .before .loop .inv .listed-kept
@@ -108,14 +118,13 @@ same-length-3 c = c .before .loop .inv .lengths-kept
 returns : tie.Need-returns Inv-loop μ-loop
 returns c =
     let turn = c .before in
-    let begin = turn .before .before .before in
-    let s = begin .before .before .before .before .before .before .before .before .before in
+    let s = entry turn in
     let inv = turn .loop .inv in
     let e : turn .loop .taken ≡ s .args .n = omega arith in
-    as-lent (begin .start .ensures .past) (all-steps e (inv .ran))
+    as-lent (opening turn .start .ensures .past) (all-steps e (inv .ran))
 
 same-length-4 : tie.Need-same-length-4 Inv-loop μ-loop
-same-length-4 c = c .before .before .loop .inv .work-kept ∙ c .before .before .before .before .before .start .kept .1 .1 .1 .1 .1 .1 .0
+same-length-4 c = c .before .before .loop .inv .work-kept ∙ opening (c .before .before) .start .kept .1 .1 .1 .1 .1 .1 .0
 
 same-length-5 : tie.Need-same-length-5 Inv-loop μ-loop
 same-length-5 c = c .before .before .loop .inv .listed-kept
@@ -126,13 +135,12 @@ same-length-6 c = c .before .before .loop .inv .lengths-kept
 returns-2 : tie.Need-returns-2 Inv-loop μ-loop
 returns-2 c =
     let turn = c .before .before in
-    let begin = turn .before .before .before in
-    let s = begin .before .before .before .before .before .before .before .before .before in
+    let s = entry turn in
     let inv = turn .loop .inv in
-    as-lent (begin .start .ensures .past) (stops-filled (s .pre .0) (inv .ran) (c .if1 .taken) (s .args .n) (inv .most))
+    as-lent (opening turn .start .ensures .past) (stops-filled (s .pre .0) (inv .ran) (c .if1 .taken) (s .args .n) (inv .most))
 
 same-length-7 : tie.Need-same-length-7 Inv-loop μ-loop
-same-length-7 c = c .before .before .before .loop .inv .work-kept ∙ c .before .before .before .before .before .before .start .kept .1 .1 .1 .1 .1 .1 .0
+same-length-7 c = c .before .before .before .loop .inv .work-kept ∙ opening (c .before .before .before) .start .kept .1 .1 .1 .1 .1 .1 .0
 
 same-length-8 : tie.Need-same-length-8 Inv-loop μ-loop
 same-length-8 c = c .before .before .before .loop .inv .listed-kept
@@ -143,13 +151,12 @@ same-length-9 c = c .before .before .before .loop .inv .lengths-kept
 returns-3 : tie.Need-returns-3 Inv-loop μ-loop
 returns-3 c =
     let turn = c .before .before .before in
-    let begin = turn .before .before .before in
-    let s = begin .before .before .before .before .before .before .before .before .before in
+    let s = entry turn in
     let inv = turn .loop .inv in
-    as-lent (begin .start .ensures .past) (stops-done (s .pre .0) (inv .ran) (c .if2 .taken) (s .args .n) (inv .most))
+    as-lent (opening turn .start .ensures .past) (stops-done (s .pre .0) (inv .ran) (c .if2 .taken) (s .args .n) (inv .most))
 
 same-length-10 : tie.Need-same-length-10 Inv-loop μ-loop
-same-length-10 c = c .before .before .before .before .before .before .before .loop .inv .work-kept ∙ c .before .before .before .before .before .before .before .before .before .before .start .kept .1 .1 .1 .1 .1 .1 .0
+same-length-10 c = c .before .before .before .before .before .before .before .loop .inv .work-kept ∙ opening (c .before .before .before .before .before .before .before) .start .kept .1 .1 .1 .1 .1 .1 .0
 
 same-length-11 : tie.Need-same-length-11 Inv-loop μ-loop
 same-length-11 c = c .before .before .before .before .before .before .before .loop .inv .listed-kept
@@ -160,10 +167,9 @@ same-length-12 c = c .before .before .before .before .before .before .before .lo
 returns-4 : tie.Need-returns-4 Inv-loop μ-loop
 returns-4 c =
     let turn = c .before .before .before .before .before .before .before in
-    let begin = turn .before .before .before in
-    let s = begin .before .before .before .before .before .before .before .before .before in
+    let s = entry turn in
     let inv = turn .loop .inv in
-    as-lent (begin .start .ensures .past) (stops-closed (s .pre .0) (inv .ran) (c .before .before .least-open .ensures) (c .enum-told .given .1) (s .args .n) (inv .most))
+    as-lent (opening turn .start .ensures .past) (stops-closed (s .pre .0) (inv .ran) (c .before .before .least-open .ensures) (c .enum-told .given .1) (s .args .n) (inv .most))
 
 pub run-spec : {M : Type 1} → statement M
 run-spec =
@@ -173,6 +179,7 @@ run-spec =
     μ-loop
     sub-start
     start-requires
+    grouped-requires
     loop-holds
     least-open-requires
     enum-known-u

@@ -10,7 +10,7 @@ relax-requires : tie.Need-relax-requires
 relax-requires c κs =
     let start = c .before .before .before .before .before .before .before .before .before .before in
     let close = c .before .before .before .close in
-    ((rw (close .kept .1 .1 .1 .1 .1 .1 .0) (start .pre .0 .0), start .pre .0 .1), (start .pre .1 .0, (start .pre .1 .1 .0, λ v l. rw (close .ensures .1 .0 v l) (start .pre .1 .1 .1 v l))))
+    ((rw (close .kept .1 .1 .1 .1 .1 .1 .0) (start .pre .0 .0), start .pre .0 .1), (start .pre .1 .0, (start .pre .1 .1 .0, (start .pre .1 .1 .1 .0, λ v l. rw (close .ensures .1 .0 v l) (start .pre .1 .1 .1 .1 v l)))))
 
 same-length : tie.Need-same-length
 same-length c = search needs
