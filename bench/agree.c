@@ -5,12 +5,6 @@
 #include <stdio.h>
 #include <string.h>
 
-read_graph_call wick_read_graph;
-read_coordinates_call wick_read_coordinates;
-read_sites_call wick_read_sites;
-search_call wick_search;
-panel_call wick_panel;
-
 const struct side library = {wick_read_graph, wick_read_coordinates, wick_read_sites, wick_search, wick_panel};
 const struct side peer = {peer_read_graph, peer_read_coordinates, peer_read_sites, peer_search, peer_panel};
 
@@ -48,12 +42,13 @@ static unsigned long met[14], differences;
 
 static void count(uint64_t of_library, uint64_t of_peer, int alike, const char *call) {
     if (of_library == of_peer && alike) {
-        met[number_of(of_library) % 14]++;
+        met[wick_number(of_library) % 14]++;
         return;
     }
     if (differences++ < 10)
-        printf("%s: the library %u %zu %zu, the peer %u %zu %zu%s\n", call, number_of(of_library), first_of(of_library),
-               second_of(of_library), number_of(of_peer), first_of(of_peer), second_of(of_peer), alike ? "" : ", and the buffers differ");
+        printf("%s: the library %u %d %d, the peer %u %d %d%s\n", call, wick_number(of_library), (int)wick_first(of_library),
+               (int)wick_second(of_library), wick_number(of_peer), (int)wick_first(of_peer), (int)wick_second(of_peer),
+               alike ? "" : ", and the buffers differ");
 }
 
 int tell(void) {
@@ -261,11 +256,12 @@ void agree_on_crossings(size_t times, uint64_t seed) {
     static struct pack p;
     for (size_t i = 0; i < times; i++) {
         make_crossing(&p, &seed);
+        if (i % 2 == 0) group_arcs(&p);
         for (size_t query = 1; query <= p.n; query++) {
             struct ask a = ask_of(&p, query, 1 + draw(&seed, 6));
             agree_on_search(&p, &a);
         }
-        if (i % 8 != 0) continue;
+        if (i % 7 != 0) continue;
         write_texts(&p, seed);
         agree_on_pack(&p, 2);
         agree_on_damage(&p, 8, seed);

@@ -82,7 +82,7 @@ static double choose_queries(struct job *job) {
     }
     for (size_t i = 0; i < job->count; i++) {
         struct ask a = ask_of(p, job->queries[i], job->k);
-        taken += second_of(search(&library, p, &a, &to));
+        taken += wick_taken(search(&library, p, &a, &to));
     }
     return (double)taken / (double)job->count;
 }
@@ -160,9 +160,10 @@ static int agreed(void) {
         static struct pack p;
         p = town_of(32, 32, shape);
         agree_on_pack(&p, shapes[shape].k);
+        agree_on_damage(&p, 300, (uint64_t)shape);
         p = shuffled(p);
         agree_on_pack(&p, shapes[shape].k);
-        agree_on_damage(&p, 500, (uint64_t)shape);
+        agree_on_damage(&p, 300, (uint64_t)shape + 10);
     }
     agree_on_crossings(4000, 5);
     return tell();
@@ -170,19 +171,20 @@ static int agreed(void) {
 
 static void show_growth(enum shape shape) {
     static const size_t width[] = {8, 8, 16, 16, 32}, height[] = {8, 16, 16, 32, 32};
-    struct cost before = {0, 0};
-    printf("\n%s: N, M = 4N, S = %s, k = %zu; microseconds a query, and how many times those of half the nodes\n\n", shapes[shape].name,
-           shape == TOWN ? "N/8" : "1", shapes[shape].k);
-    printf("| N | taken | library | times | peer | times | ratio |\n|---|---|---|---|---|---|---|\n");
-    for (size_t i = 0; i < 5; i++) {
+    printf("\nGrowth of %s: M = 4N, S = %s, k = %zu; microseconds a query, and how many times those of half the nodes\n\n",
+           shapes[shape].name, shape == TOWN ? "N/8" : "1", shapes[shape].k);
+    printf("| N | arcs | taken | library | times | peer | times | ratio |\n|---|---|---|---|---|---|---|---|\n");
+    for (size_t i = 0; i < 10; i++) {
         static struct pack p;
+        static struct cost before;
         double taken;
-        p = shuffled(town_of(width[i], height[i], shape));
+        p = town_of(width[i % 5], height[i % 5], shape);
+        if (i >= 5) p = shuffled(p);
         struct cost c = cost_of_search(&p, shapes[shape].k, &taken);
-        printf("| %zu | %.1f | %.2f | ", p.n, taken, c.library);
-        if (i > 0) printf("%.1f", c.library / before.library);
+        printf("| %zu | %s | %.1f | %.2f | ", p.n, i < 5 ? "by tail" : "shuffled", taken, c.library);
+        if (i % 5 > 0) printf("%.1f", c.library / before.library);
         printf(" | %.2f | ", c.peer);
-        if (i > 0) printf("%.1f", c.peer / before.peer);
+        if (i % 5 > 0) printf("%.1f", c.peer / before.peer);
         printf(" | %.1f |\n", c.library / c.peer);
         fflush(stdout);
         before = c;

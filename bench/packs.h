@@ -2,10 +2,9 @@
 #ifndef PACKS_H
 #define PACKS_H
 
-#include <stddef.h>
-#include <stdint.h>
+#include "wickswarm.h"
 
-enum { NODES = 1024, ARCS = 4096, SITES = 128, TEXT = 65536, LIST = 32 };
+enum { NODES = WICK_NODES_MOST, ARCS = WICK_ARCS_MOST, SITES = WICK_SITES_MOST, TEXT = WICK_TEXT_MOST, LIST = WICK_K_MOST };
 
 /* A text, with room for the line that makes it too long. */
 struct text {

@@ -49,12 +49,6 @@ struct ask ask_of(const struct pack *p, size_t query, size_t k);
 
 uint64_t search(const struct side *side, const struct pack *p, const struct ask *a, struct rooms *to);
 
-static inline unsigned number_of(uint64_t answer) { return (unsigned)(answer >> 56); }
-
-static inline size_t first_of(uint64_t answer) { return answer >> 28 & 0xFFFFFFF; }
-
-static inline size_t second_of(uint64_t answer) { return answer & 0xFFFFFFF; }
-
 /* Asks both sides the same and compares the answers and every entry of every buffer: the searches and the texts of a pack, these with damage
  * done to them, and small regions with many equal lengths. A difference is printed. tell() says how many calls were alike, and is 0 if any differed. */
 void agree_on_pack(const struct pack *p, size_t k);
