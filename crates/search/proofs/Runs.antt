@@ -7,20 +7,20 @@ use mathlib.Core.List.{List, [], _∷_, _++_, map, append-assoc}
 use Prim.Native.Nat.{ℕ, zero, suc, _+_, _-_, _*_, _≤_, _<_}
 use native.Mathlib.Numerals.{add-one}
 use native.Mathlib.Omega.{arith}
-use borrow.Author.Tests.{le-leb, lt-leb}
-use lib.Dec.{T, leb}
+use borrow.Author.Tests.{le-leb, lt-leb, ltb-false}
+use lib.Dec.{T, not-T, leb, ltb}
 use lib.ListN.{length, getD, set, drop, replicate, length-append, length-map}
 use lib.Seq.{drop-cons, set-append-seam}
 use Rattle.meaning.specs.Scan.{any}
 use Rattle.meaning.specs.Region.{Tables, regionOf, isSite}
 use Rattle.meaning.specs.Taking.{State, memb, taken, isOpen, aimed, lenAt, toSites, sitesOf, mark, take1, takeAt, start, full, choose, next, after, keyIn}
 use Rattle.meaning.specs.Search.{over, aimOf}
-use Rattle.meaning.proofs.Bools.{T-true, or-left, or-right}
+use Rattle.meaning.proofs.Bools.{T-true, or-left, or-right, and-make}
 use Rattle.meaning.proofs.Counting.{count}
 use Rattle.meaning.proofs.Scans.{First, first-is, any-is}
 use Rattle.meaning.proofs.Orders.{memb-head, memb-tail}
 use Rattle.meaning.proofs.Relaxing.{relaxTo-taken}
-use Rattle.meaning.proofs.Listed.{Stopped, sites-in, listed-after, stays}
+use Rattle.meaning.proofs.Listed.{Stopped, sites-in, sites-of, listed-after, stays}
 use Rattle.meaning.proofs.States.{taken-old}
 use Rattle.meaning.proofs.Outcomes.{aim-fits}
 use Rattle.meaning.proofs.Demands.{lengths-most}
@@ -155,14 +155,25 @@ module _ {t : Tables} {q k : ℕ} (P : Passed t q k) {i : ℕ} {work listed leng
       lengths-are = ran .lengths-are;
     }
 
-    chosen : {r : Next} → Chosen (places (t .xs) (t .ys) (t .sites) (t .n) (t .s)) w r → r ≡ nextOf (choose (regionOf t) (aimOf t) here)
-    unfolding isSite aimed toSites choose
-    chosen h = h here from (drop (4 * t .n) work) (left b .0) (left b .2) (ran .live)
+    -- while the list is empty, no site has been taken
+    all-left : ltb 0 c ≡ false → (j : ℕ) → T (isSite (regionOf t) j) → T (aimed (regionOf t) here j)
+    unfolding aimed taken memb
+    all-left e j z =
+        and-make (isSite (regionOf t) j) (not (memb j (here .order))) z
+        (not-T (memb j (here .order)) (λ y. none-in (sitesOf (regionOf t) (here .order)) (let a = ltb-false 0 c e in let b = ran .sites-are in omega arith) (sites-of (regionOf t) (here .order) j y z)))
+      where
+        none-in : (xs : List ℕ) → length xs ≡ 0 → T (memb j xs) → ⊥
+        none-in [] e t = t
+        none-in (x ∷ xs) e t = omega arith
 
-    pub picked-node : {r : Next} {u : ℕ} → Chosen (places (t .xs) (t .ys) (t .sites) (t .n) (t .s)) w r → r ≡ Node u → choose (regionOf t) (aimOf t) here ≡ some u
+    chosen : {r : Next} → Chosen (places (t .xs) (t .ys) (t .sites) (t .n) (t .s)) (ltb 0 c) w r → r ≡ nextOf (choose (regionOf t) (aimOf t) here)
+    unfolding isSite aimed toSites choose
+    chosen h = h here from (drop (4 * t .n) work) (left b .0) (left b .2) all-left (ran .live)
+
+    pub picked-node : {r : Next} {u : ℕ} → Chosen (places (t .xs) (t .ys) (t .sites) (t .n) (t .s)) (ltb 0 c) w r → r ≡ Node u → choose (regionOf t) (aimOf t) here ≡ some u
     picked-node {u = u} h e = next-some (choose (regionOf t) (aimOf t) here) u (sym e ∙ chosen h)
 
-    pub picked-none : {r : Next} → Chosen (places (t .xs) (t .ys) (t .sites) (t .n) (t .s)) w r → r ≡ Nothing → choose (regionOf t) (aimOf t) here ≡ none
+    pub picked-none : {r : Next} → Chosen (places (t .xs) (t .ys) (t .sites) (t .n) (t .s)) (ltb 0 c) w r → r ≡ Nothing → choose (regionOf t) (aimOf t) here ≡ none
     picked-none h e = next-none (choose (regionOf t) (aimOf t) here) (sym e ∙ chosen h)
 
   pub first-of : {u : ℕ} → choose (regionOf t) (aimOf t) here ≡ some u → First (isOpen here) (keyIn (regionOf t) (aimOf t) here) (t .n) u

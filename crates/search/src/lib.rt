@@ -73,7 +73,7 @@ fn run(
         if s <= count {
             break;
         }
-        let Next::Node(u) = taking::choose(xs, ys, sites, n, s, work) else {
+        let Next::Node(u) = taking::choose(xs, ys, sites, n, s, 0 < count, work) else {
             break;
         };
         let site = taking::take(

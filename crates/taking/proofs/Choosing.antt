@@ -26,7 +26,7 @@ use Rattle.memory.proofs.Lines.{line-is}
 use Rattle.memory.proofs.Writes.{lineWith, held-aim}
 use Rattle.memory.proofs.TreeChanges.{outside-held}
 use Rattle.taking.specs.Steps.{Live, rivalAt, Aiming, Stays}
-use Rattle.taking.proofs.Reaching.{with-present}
+use Rattle.taking.proofs.Reaching.{with-present, with-same}
 
 -- ---- what a scan found
 
@@ -117,6 +117,21 @@ module _ (t : Tables) (g : Ground (t .xs) (t .ys) (t .sites) (t .n) (t .s)) {s :
         same : keyAt (t .n) w v ≡ keyIn (regionOf t) (aimOf t) s v
         same = rw (key-is (L .holds) v (F .below) (open-here v (F .below) (F .holds)), exact)
 
+    -- all sites are left, so every node stands with its present estimate
+    pub chosen-exact : ((j : ℕ) → T (isSite (regionOf t) j) → T (aimed (regionOf t) s j)) → Node v ≡ nextOf (choose (regionOf t) (aimOf t) s)
+    unfolding choose
+    chosen-exact a =
+        node-found (isOpen s) (keyIn (regionOf t) (aimOf t) s) (t .n) (first (isOpen s) (keyIn (regionOf t) (aimOf t) s) (t .n)) (first-is (isOpen s) (keyIn (regionOf t) (aimOf t) s) (t .n)) v
+        (record {
+          below = F .below;
+          holds = open-here v (F .below) (F .holds);
+          least = λ u l o. let b = F .least u l (rw (open-is (L .holds) u l) o) in let c = same u l o in let d = same v (F .below) (open-here v (F .below) (F .holds)) in omega arith;
+          lower = λ u l o k. let c = same u l o in let d = same v (F .below) (open-here v (F .below) (F .holds)) in F .lower u l (rw (open-is (L .holds) u l) o) (omega arith);
+        })
+      where
+        same : (u : ℕ) → u < t .n → T (isOpen s u) → keyAt (t .n) w u ≡ keyIn (regionOf t) (aimOf t) s u
+        same u l o = rw (key-is (L .holds) u l o, L .exact a u)
+
     -- its estimate has risen, and is stored
     module _ {w' : List ℕ} (O : Outside (t .n) (set w (t .n + v) (rivalAt t w v)) w') where
       pub raised : Live t s from rest w'
@@ -124,6 +139,7 @@ module _ (t : Tables) (g : Ground (t .xs) (t .ys) (t .sites) (t .n) (t .s)) {s :
         line = lineWith (L .line) v (aim v);
         holds = outside-held O (rw (present t g L v) (held-aim (L .holds) v (F .below) (open-here v (F .below) (F .holds)) (aim v)));
         low = λ j m x. with-present (L .line) aim v x (L .low j m x);
+        exact = λ a x. with-same (L .line) aim v x (L .exact a x);
       }
 
       -- so one node fewer is held otherwise

@@ -1,7 +1,7 @@
 -- A node closed: the estimates that are held stay, and the present ones only rise.
-use mathlib.Core.Bool.{not, _||_}
+use mathlib.Core.Bool.{Bool, true, false, not, _||_}
 use mathlib.Core.List.{List}
-use mathlib.Core.Path.{_∙_}
+use mathlib.Core.Path.{_≡_, refl, ap, fun-ext, _∙_}
 use Prim.Native.Nat.{ℕ, _+_, _/_, _<_}
 use native.Mathlib.Omega.{arith}
 use lib.Dec.{T, eqb}
@@ -10,6 +10,7 @@ use lib.Seq.{getD-set-other}
 use Rattle.meaning.specs.Region.{Tables, Region, regionOf, isSite, xAt, yAt}
 use Rattle.meaning.specs.Straight.{straight}
 use Rattle.meaning.specs.Taking.{State, taken, memb, isOpen, aimed, mark}
+use Rattle.meaning.specs.Search.{aimOf}
 use Rattle.meaning.proofs.Bools.{and-both, and-make, nor-both}
 use Rattle.meaning.proofs.Estimates.{sites-mono}
 use Rattle.meaning.proofs.Relaxing.{aimed-site}
@@ -36,6 +37,12 @@ aimed-less R s u v t =
     let b = and-both (isSite R v) (not (eqb u v || memb v (s .order))) t in
     and-make (isSite R v) (not (memb v (s .order))) (b .0) (nor-both (eqb u v) (memb v (s .order)) (b .1) .1)
 
+same-test : (a b : Bool) → (T a → T b) → (T b → T a) → a ≡ b
+same-test true true f g = refl
+same-test true false f g = absurd (f tt)
+same-test false true f g = absurd (g tt)
+same-test false false f g = refl
+
 pub close-live : (t : Tables) (u : ℕ) (w w' : List ℕ) → Closed (t .n) u w w' → (s : State) (from rest : List ℕ) → Live t s from rest w → T (isOpen s u) → Live t (mark s u) from rest w'
 close-live t u w w' c s from rest L o = record {
   line = L .line;
@@ -44,4 +51,9 @@ close-live t u w w' c s from rest L o = record {
       let a = L .low j (aimed-less (regionOf t) s u j m) v in
       let b = sites-mono (regionOf t) (straight (xAt t) (yAt t)) (aimed (regionOf t) s) (aimed (regionOf t) (mark s u)) (aimed-site (regionOf t) s) (aimed-less (regionOf t) s u) j m v in
       omega arith;
+  exact = λ a v. L .exact (λ j z. aimed-less (regionOf t) s u j (a j z)) v ∙ ap (λ (S : ℕ → Bool). aimOf t S v) (same-aims a);
 }
+  where
+    -- where all sites are left, they are what was aimed at before
+    same-aims : ((j : ℕ) → T (isSite (regionOf t) j) → T (aimed (regionOf t) (mark s u) j)) → aimed (regionOf t) s ≡ aimed (regionOf t) (mark s u)
+    same-aims a = fun-ext (λ j. same-test (aimed (regionOf t) s j) (aimed (regionOf t) (mark s u) j) (λ z. a j (aimed-site (regionOf t) s j z)) (aimed-less (regionOf t) s u j))

@@ -23,7 +23,7 @@ use Rattle.memory.proofs.TreeChanges.{else-none, else-length, else-rival, tree-
 use Rattle.taking.specs.Ways.{Spanned}
 use Rattle.taking.specs.Parents.{parentAt, parentBy, parentsTo, parents1}
 use Rattle.taking.specs.Steps.{places, Live, reached, Reached, Relaxed, Closed, Took, rivalAt}
-use Rattle.taking.proofs.Reaching.{unseen-not-taken, with-present}
+use Rattle.taking.proofs.Reaching.{unseen-not-taken, with-present, with-same}
 use Rattle.taking.proofs.Closing.{close-live}
 
 -- ---- the start
@@ -50,6 +50,7 @@ started t q w w₁ room l g e r er w' O =
       line = lineWith aim q (aim q);
       holds = outside-held O (rw i (held-open H q l (getD-replicate (t .n) q 0 0 l) 1 (aim q) (omega arith)));
       low = λ j m v. with-present aim aim q v (omega arith);
+      exact = λ a v. with-same aim aim q v refl;
     }
 
 -- ---- arcs

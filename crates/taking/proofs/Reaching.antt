@@ -135,8 +135,8 @@ arrived-live t u h at w w' a s from rest p L = go (taken s h) (a (isSite (region
   where
     go : (b : Bool) → Holds (t .n) (isSite (regionOf t)) (L .line) (cond b s (reached s h at)) (parentAt (taken s) u at h (s .best) from) rest w'
         → Live t (cond b s (reached s h at)) (parentAt (taken s) u at h (s .best) from) rest w'
-    go true x = record { line = L .line; holds = x; low = L .low }
-    go false x = record { line = L .line; holds = x; low = L .low }
+    go true x = record { line = L .line; holds = x; low = L .low; exact = L .exact }
+    go false x = record { line = L .line; holds = x; low = L .low; exact = L .exact }
 
 -- the present estimate of v written
 pub with-present : (line aim : ℕ → ℕ) (v x : ℕ) → line x ≤ aim x → lineWith line v (aim v) x ≤ aim x
@@ -144,6 +144,13 @@ with-present line aim v x l = go (eqb x v) (eqb→eq x v)
   where
     go : (b : Bool) → (T b → x ≡ v) → cond b (aim v) (line x) ≤ aim x
     go true e = rw (e tt) (omega arith)
+    go false e = l
+
+pub with-same : (line aim : ℕ → ℕ) (v x : ℕ) → line x ≡ aim x → lineWith line v (aim v) x ≡ aim x
+with-same line aim v x l = go (eqb x v) (eqb→eq x v)
+  where
+    go : (b : Bool) → (T b → x ≡ v) → cond b (aim v) (line x) ≡ aim x
+    go true e = ap aim (sym (e tt))
     go false e = l
 
 -- a node that has not been seen is opened, with the estimate just made
@@ -161,4 +168,5 @@ opened t u h at w g l z r er w' O s from rest p L =
       line = lineWith (L .line) h (aim h);
       holds = outside-held O (rw i (held-lead (held-open H h l e at (aim h) p) h l (u + 1)));
       low = λ j m v. with-present (L .line) aim h v (L .low j m v);
+      exact = λ a v. with-same (L .line) aim h v (L .exact a v);
     })

@@ -19,11 +19,13 @@ use Rattle.taking.specs.Parents.{parentAt, parentsTo, parents1}
 abbrev pub places : List ℤ → List ℤ → List ℕ → ℕ → ℕ → Tables
 places xs ys sites n s = tables [] [] [] xs ys sites n 0 s
 
--- The memory holds the state s, and no estimate in it is above `aim`, the present one, as long as there is a site left to aim at.
+-- The memory holds the state s, and no estimate in it is above `aim`, the present one, as long as there is a site left to aim at. As long as all sites are left, each is
+-- the present one.
 pub record Under (n : ℕ) (site left : ℕ → Bool) (aim : ℕ → ℕ) (s : State) (from rest w : List ℕ) : Type 0 where
   pub line : ℕ → ℕ
   pub holds : Holds n site line s from rest w
   pub low : (j : ℕ) → T (left j) → (v : ℕ) → line v ≤ aim v
+  pub exact : ((j : ℕ) → T (site j) → T (left j)) → (v : ℕ) → line v ≡ aim v
 
 -- the memory holds the state s of a search over the tables t, each open node with an estimate that is at most the one to the present set of sites
 abbrev pub Live : Tables → State → List ℕ → List ℕ → List ℕ → Type 0
@@ -86,10 +88,16 @@ pub record Aiming (t : Tables) (w : List ℕ) : Type 0 where
   pub left : ℕ
   pub aims : T (aimed (regionOf t) state left)
 
+-- an estimate may have to be made anew only if a site has been taken
+abbrev pub Told : Tables → Bool → State → Type 0
+Told t missed s = missed ≡ false → (j : ℕ) → T (isSite (regionOf t) j) → T (aimed (regionOf t) s j)
+
 -- the same state is held, in whatever state a site is left
 abbrev pub Stays : Tables → List ℕ → List ℕ → Type 0
 Stays t w w' = (s : State) (from rest : List ℕ) (j : ℕ) → T (aimed (regionOf t) s j) → Live t s from rest w → Live t s from rest w'
 
 -- r is the open node that goes next in whatever state the memory holds, if a site is left
-abbrev pub Chosen : Tables → List ℕ → Next → Type 0
-Chosen t w r = (s : State) (from rest : List ℕ) (j : ℕ) → T (aimed (regionOf t) s j) → Live t s from rest w → r ≡ nextOf (choose (regionOf t) (aimOf t) s)
+abbrev pub Chosen : Tables → Bool → List ℕ → Next → Type 0
+Chosen t missed w r =
+    (s : State) (from rest : List ℕ) (j : ℕ) → T (aimed (regionOf t) s j) → Told t missed s → Live t s from rest w
+    → r ≡ nextOf (choose (regionOf t) (aimOf t) s)

@@ -220,20 +220,31 @@ fn fresh(
 }
 
 // The open node to be taken next. Taking sites only raises estimates, so one made earlier is at most the present one: only of the node at the tree's top it is made
-// anew.
-pub fn choose(xs: &[i32], ys: &[i32], sites: &[u16], n: usize, s: usize, work: &mut [u32]) -> Next
+// anew, and only where a site has been taken (missed).
+pub fn choose(
+    xs: &[i32],
+    ys: &[i32],
+    sites: &[u16],
+    n: usize,
+    s: usize,
+    missed: bool,
+    work: &mut [u32],
+) -> Next
     requires { ⌜ (1 ≤ n) × (n ≤ 1024) ⌝ }
     requires { ⌜ Ground (now xs) (now ys) (now sites) n s ⌝ }
     requires { ⌜ Tree n (now work) ⌝ }
     requires { ⌜ Aiming (places (now xs) (now ys) (now sites) n s) (now work) ⌝ }
     ensures { λ r. ⌜ Tree n (now (work .exit)) ⌝ }
     ensures { λ r. ⌜ Stays (places (now (xs .entry)) (now (ys .entry)) (now (sites .entry)) n s) (now (work .entry)) (now (work .exit)) ⌝ }
-    ensures { λ r. ⌜ Chosen (places (now (xs .entry)) (now (ys .entry)) (now (sites .entry)) n s) (now (work .entry)) r ⌝ }
+    ensures { λ r. ⌜ Chosen (places (now (xs .entry)) (now (ys .entry)) (now (sites .entry)) n s) missed (now (work .entry)) r ⌝ }
 {
     loop {
         let Next::Node(v) = memory::first_open(work, n) else {
             return Next::Nothing;
         };
+        if !missed {
+            return Next::Node(v);
+        }
         if fresh(xs, ys, sites, n, s, v, work) {
             return Next::Node(v);
         }

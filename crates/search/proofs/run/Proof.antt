@@ -76,7 +76,7 @@ list-requires c κs =
     let inv = turn .loop .inv in
     let f = first-of (s .pre .0) (inv .ran) (picked-node (s .pre .0) (inv .ran) (looked .before .before .if2 .left) (looked .choose .ensures .1 .1) (picked .u .given .1)) in
     let kept = took .take .kept .1 .1 .1 .1 .1 .1 .1 .1 .1 .1 .1 .0 in
-    let same = looked .choose .kept .1 .1 .1 .1 .1 .0 in
+    let same = looked .choose .kept .1 .1 .1 .1 .1 .1 .0 in
     let room = inv .ran .live .holds .room in
     let under : turn .loop .count < s .args .k = tested .if1 .left in
     ((omega arith, (f .below, few (s .pre .0))), (omega (arith, s .pre, inv), omega (arith, s .pre, inv)))
@@ -110,7 +110,7 @@ loop-again c =
       most = omega (arith, tested .before .loop-test .taken);
       ran = rw add-one step;
       tree = took .take .ensures .1 .0;
-      work-kept = took .take .kept .1 .1 .1 .1 .1 .1 .1 .1 .1 .1 .1 .0 ∙ looked .choose .kept .1 .1 .1 .1 .1 .0 ∙ inv .work-kept;
+      work-kept = took .take .kept .1 .1 .1 .1 .1 .1 .1 .1 .1 .1 .1 .0 ∙ looked .choose .kept .1 .1 .1 .1 .1 .1 .0 ∙ inv .work-kept;
       listed-kept = listing .list .kept .1 .1 .1 .1 .0 ∙ inv .listed-kept;
       lengths-kept = listing .list .kept .1 .1 .1 .1 .1 .0 ∙ inv .lengths-kept;
     }
@@ -167,7 +167,7 @@ returns-3 c =
 same-length-10 : tie.Need-same-length-10 Inv-loop μ-loop
 same-length-10 c =
     let turn = c .before .before .before .before .before .before .before .before .before in
-    c .before .before .before .before .choose .kept .1 .1 .1 .1 .1 .0 ∙ turn .loop .inv .work-kept ∙ opening turn .start .kept .1 .1 .1 .1 .1 .1 .0
+    c .before .before .before .before .choose .kept .1 .1 .1 .1 .1 .1 .0 ∙ turn .loop .inv .work-kept ∙ opening turn .start .kept .1 .1 .1 .1 .1 .1 .0
 
 same-length-11 : tie.Need-same-length-11 Inv-loop μ-loop
 same-length-11 c = c .before .before .before .before .before .before .before .before .before .loop .inv .listed-kept
