@@ -2,15 +2,15 @@
 ghost use mathlib.Core.Path.{_≡_};
 ghost use Prim.Native.Nat.{_≤_};
 ghost use lib.ListN.{length};
-ghost use Rattle.grammar.specs.Plain.{NumberEnds, CoordinateEnds, ArcSaid, PointSaid, SiteSaid};
+ghost use Rattle.grammar.specs.Plain.{ArcSaid, PointSaid, SiteSaid};
 
 // A number, and where what follows it starts: 0 where no number stands there.
-struct Digits {
+struct Unsigned {
     value: usize,
     next: usize,
 }
 
-struct Coordinate {
+struct WithSign {
     value: i32,
     next: usize,
 }
@@ -42,20 +42,19 @@ fn reach(text: &[u8], at: usize) -> usize {
 }
 
 // The digits from a position to a byte that is none.
-fn closed(value: usize, at: usize, i: usize, ends: bool) -> Digits {
+fn closed(value: usize, at: usize, i: usize, ends: bool) -> Unsigned {
     if !ends {
-        return Digits { value: 0, next: 0 };
+        return Unsigned { value: 0, next: 0 };
     }
     if i == at {
-        return Digits { value: 0, next: 0 };
+        return Unsigned { value: 0, next: 0 };
     }
-    Digits { value, next: i + 1 }
+    Unsigned { value, next: i + 1 }
 }
 
 // One to nine digits, and the byte `end` after them.
-fn digits(text: &[u8], at: usize, end: u8) -> Digits
+fn digits(text: &[u8], at: usize, end: u8) -> Unsigned
     requires { ⌜ at ≤ length (now text) ⌝ }
-    ensures { λ r. ⌜ NumberEnds (now (text .entry)) at end (r .value) (r .next) ⌝ }
 {
     let most = reach(text, at);
     let mut value: usize = 0;
@@ -69,7 +68,7 @@ fn digits(text: &[u8], at: usize, end: u8) -> Digits
         value = value * 10 + digit as usize;
         i += 1;
     }
-    Digits { value: 0, next: 0 }
+    Unsigned { value: 0, next: 0 }
 }
 
 fn is_minus(text: &[u8], at: usize) -> bool {
@@ -80,20 +79,19 @@ fn is_minus(text: &[u8], at: usize) -> bool {
 }
 
 // The same, with or without a minus sign before the digits.
-fn coordinate(text: &[u8], at: usize, end: u8) -> Coordinate
+fn coordinate(text: &[u8], at: usize, end: u8) -> WithSign
     requires { ⌜ at ≤ length (now text) ⌝ }
-    ensures { λ r. ⌜ CoordinateEnds (now (text .entry)) at end (r .value) (r .next) ⌝ }
 {
     if is_minus(text, at) {
         let size = digits(text, at + 1, end);
         let value = size.value as i32;
-        return Coordinate {
+        return WithSign {
             value: 0 - value,
             next: size.next,
         };
     }
     let size = digits(text, at, end);
-    Coordinate {
+    WithSign {
         value: size.value as i32,
         next: size.next,
     }

