@@ -1,8 +1,8 @@
 // Data lines in their plain form, read in one go: the word, one space, the numbers with one space between them, LF. What isn't plain is left to `line_of`.
 ghost use mathlib.Core.Path.{_≡_};
-ghost use Prim.Native.Nat.{_≤_};
+ghost use Prim.Native.Nat.{_<_, _≤_};
 ghost use lib.ListN.{length};
-ghost use Rattle.grammar.specs.Plain.{ArcSaid, PointSaid, SiteSaid};
+ghost use Rattle.grammar.specs.Plain.{ArcSaid, PointSaid, SiteSaid, DigitsSaid, CoordinateSaid, Reached, Closed, MinusSaid, StartSaid};
 
 // A number, and where what follows it starts: 0 where no number stands there.
 struct Unsigned {
@@ -36,13 +36,19 @@ pub struct PlainSite {
 }
 
 // How far the digits may go that start at a position: ten of them would be too many.
-fn reach(text: &[u8], at: usize) -> usize {
+fn reach(text: &[u8], at: usize) -> usize
+    requires { ⌜ at ≤ length (now text) ⌝ }
+    ensures { λ r. ⌜ Reached (now (text .entry)) at r ⌝ }
+{
     let most = at + 10;
     if text.len() < most { text.len() } else { most }
 }
 
 // The digits from a position to a byte that is none.
-fn closed(value: usize, at: usize, i: usize, ends: bool) -> Unsigned {
+fn closed(value: usize, at: usize, i: usize, ends: bool) -> Unsigned
+    requires { ⌜ i < 18446744073709551615 ⌝ }
+    ensures { λ r. ⌜ Closed value at i ends (r .value) (r .next) ⌝ }
+{
     if !ends {
         return Unsigned { value: 0, next: 0 };
     }
@@ -55,6 +61,7 @@ fn closed(value: usize, at: usize, i: usize, ends: bool) -> Unsigned {
 // One to nine digits, and the byte `end` after them.
 fn digits(text: &[u8], at: usize, end: u8) -> Unsigned
     requires { ⌜ at ≤ length (now text) ⌝ }
+    ensures { λ r. ⌜ DigitsSaid (now (text .entry)) at end (r .value) (r .next) ⌝ }
 {
     let most = reach(text, at);
     let mut value: usize = 0;
@@ -71,7 +78,9 @@ fn digits(text: &[u8], at: usize, end: u8) -> Unsigned
     Unsigned { value: 0, next: 0 }
 }
 
-fn is_minus(text: &[u8], at: usize) -> bool {
+fn is_minus(text: &[u8], at: usize) -> bool
+    ensures { λ r. ⌜ MinusSaid (now (text .entry)) at r ⌝ }
+{
     if text.len() <= at {
         return false;
     }
@@ -81,6 +90,7 @@ fn is_minus(text: &[u8], at: usize) -> bool {
 // The same, with or without a minus sign before the digits.
 fn coordinate(text: &[u8], at: usize, end: u8) -> WithSign
     requires { ⌜ at ≤ length (now text) ⌝ }
+    ensures { λ r. ⌜ CoordinateSaid (now (text .entry)) at end (r .value) (r .next) ⌝ }
 {
     if is_minus(text, at) {
         let size = digits(text, at + 1, end);
@@ -100,6 +110,7 @@ fn coordinate(text: &[u8], at: usize, end: u8) -> WithSign
 // Whether the word w and a space start a line.
 fn starts(text: &[u8], at: usize, w: u8) -> bool
     requires { ⌜ at ≤ length (now text) ⌝ }
+    ensures { λ r. ⌜ StartSaid (now (text .entry)) at w r ⌝ }
 {
     if text.len() - at < 2 {
         return false;
