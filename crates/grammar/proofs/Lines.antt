@@ -9,8 +9,8 @@ use lib.Dec.{eqb, leb}
 use lib.IntN.{ℤ, pos, negℤ}
 use native.Mathlib.Omega.{arith}
 use native.Mathlib.Numerals.{add-one}
-use borrow.Author.Tests.{eq-eqb, ne-eqb, le-leb, eqb-true}
-use Rattle.meaning.specs.Text.{trim, fields, isBlank, goesOn, isDigit, digits, number, signed}
+use borrow.Author.Tests.{ne-eqb, le-leb, eqb-true}
+use Rattle.meaning.specs.Text.{trim, fields, isBlank, isDigit, digits, number, signed}
 use Rattle.meaning.specs.Grammar.{lineOf}
 use Rattle.meaning.specs.declared.Entry.{Entry}
 use Rattle.meaning.specs.declared.Entry.the-variants.{Arc, Point, Site}
@@ -21,7 +21,7 @@ use Rattle.meaning.specs.declared.Number.the-variants.{Value, NoNumber}
 use Rattle.meaning.specs.declared.Signed.the-variants.{At}
 use Rattle.text.specs.Scan.{Below, run, inLine, isInk}
 use Rattle.text.proofs.Laws.{fields-word, trim-other, number-digits, number-below, signed-plus}
-use Rattle.grammar.specs.Plain.{firstSays, Says, Above, Field, Read, DigitsSaid, CoordinateSaid, Closed, Ended}
+use Rattle.grammar.specs.Plain.{Says, Above, Field, Read, DigitsSaid, Closed}
 
 -- a test that all bytes above a number pass runs to where it fails
 run-above : (p : ℕ → Bool) (m : ℕ) → ((b : ℕ) → m < b → p b ≡ true) → (l r : List ℕ) → Above m l → run p r ≡ 0 → run p (l ++ r) ≡ length l
@@ -98,6 +98,12 @@ said {kind} {text} {at} h r = record {
 }
 
 -- the word of a line, and a space
+pub start : (text : List ℕ) (at w : ℕ) → at + 2 ≤ length text → getD text at 0 ≡ w → getD text (at + 1) 0 ≡ 32
+    → drop at text ≡ w ∷ 32 ∷ drop (at + 2) text
+start text at w h e d =
+    let k : suc (at + 1) ≡ at + 2 = omega arith in
+    drop-cons text at 0 (omega arith) ∙ rw (e, ← (add-one at), drop-cons text (at + 1) 0 (omega arith), d, k)
+
 word : {text : List ℕ} {at w : ℕ} → 32 < w → drop at text ≡ w ∷ 32 ∷ drop (at + 2) text → Field text at (w ∷ []) 32 (at + 2)
 word h e = record { stands = e; next-is = omega arith; some = omega arith; inks = (h, tt) }
 
@@ -171,11 +177,20 @@ module _ {text : List ℕ} {at i v : ℕ} (s : Sofar text at i v) where
       inks = above-more (s .digits-read) (getD text i 0) (s .inks) (omega arith);
     }
 
-    pub sofar-read : (end : ℕ) → i < at + 10 → (i ≡ at → ⊥) → getD text i 0 ≡ end → Read text at end (i + 1) (λ f. number f ≡ Value v)
-    sofar-read end few some e = record {
-      field = s .digits-read;
-      here = record { stands = rw e at sofar-byte; next-is = omega (arith, s .size); some = omega (arith, s .size); inks = s .inks };
-      known = number-digits (s .digits-read) (omega (arith, s .size)) (omega (arith, s .size)) ∙ s .value;
+    pub sofar-closed : {end got next : ℕ} → i < at + 10 → Closed v at i (eqb (getD text i 0) end) got next → DigitsSaid text at end got next
+    sofar-closed {end} few c = record {
+      small = omega (arith, sofar-small few, c .small);
+      inside = omega (arith, c .inside);
+      said = λ e. let k = c .said e in rw (k .got-is, k .next-is) (record {
+        field = s .digits-read;
+        here = record {
+          stands = rw (eqb-true (getD text i 0) end (k .end)) at sofar-byte;
+          next-is = omega (arith, s .size);
+          some = omega (arith, s .size, k .some);
+          inks = s .inks;
+        };
+        known = number-digits (s .digits-read) (omega (arith, s .size, k .some)) (omega (arith, s .size)) ∙ s .value;
+      });
     }
 
 -- a number, and so no minus sign in front
@@ -195,12 +210,12 @@ module _ {text : List ℕ} {at end next v : ℕ} where
     known = sym (signed-plus (r .field) (no-minus (r .field) v (r .known)) (sym (r .known)));
   }
 
-  pub coordinate-minus : at < length text → getD text at 0 ≡ 45 → Read text (at + 1) end next (λ f. number f ≡ Value v)
+  pub coordinate-minus : (at < length text) × (getD text at 0 ≡ 45) → Read text (at + 1) end next (λ f. number f ≡ Value v)
       → Read text at end next (λ f. signed f ≡ At (negℤ (pos v)))
-  coordinate-minus h e r = record {
+  coordinate-minus h r = record {
     field = 45 ∷ r .field;
     here = record {
-      stands = drop-cons text at 0 h ∙ rw (e, ← (add-one at), r .here .stands);
+      stands = drop-cons text at 0 (h .0) ∙ rw (h .1, ← (add-one at), r .here .stands);
       next-is = omega (arith, r .here .next-is);
       some = omega arith;
       inks = (omega arith, r .here .inks);
