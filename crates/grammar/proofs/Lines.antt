@@ -2,7 +2,7 @@
 use Prim.Native.Nat.{ℕ, zero, suc, _+_, _-_, _*_, _≤_, _<_}
 use mathlib.Core.Path.{_≡_, refl, ap, sym, subst, _∙_}
 use mathlib.Core.List.{List, [], _∷_, _++_, append-assoc, append-nil}
-use mathlib.Core.Bool.{Bool, true, false, cond, _&&_}
+use mathlib.Core.Bool.{Bool, true, false, not, cond, _&&_}
 use lib.ListN.{length, getD, take, drop, length-append, length-drop}
 use lib.Seq.{drop-cons, take-append-seam, drop-append-seam}
 use lib.Dec.{eqb, leb}
@@ -10,7 +10,7 @@ use lib.IntN.{ℤ, pos, negℤ}
 use native.Mathlib.Omega.{arith}
 use native.Mathlib.Numerals.{add-one}
 use borrow.Author.Tests.{ne-eqb, le-leb, eqb-true}
-use Rattle.meaning.specs.Text.{trim, fields, isBlank, isDigit, digits, number, signed}
+use Rattle.meaning.specs.Text.{trim, fields, isBlank, isDigit, digits, number}
 use Rattle.meaning.specs.Grammar.{lineOf}
 use Rattle.meaning.specs.declared.Entry.{Entry}
 use Rattle.meaning.specs.declared.Entry.the-variants.{Arc, Point, Site}
@@ -18,10 +18,9 @@ use Rattle.meaning.specs.declared.Kind.{Kind}
 use Rattle.meaning.specs.declared.Kind.the-variants.{Graph, Coordinates, Sites}
 use Rattle.meaning.specs.declared.Line.the-variants.{Data}
 use Rattle.meaning.specs.declared.Number.the-variants.{Value, NoNumber}
-use Rattle.meaning.specs.declared.Signed.the-variants.{At}
 use Rattle.text.specs.Scan.{Below, run, inLine, isInk}
 use Rattle.text.proofs.Laws.{fields-word, trim-other, number-digits, number-below, signed-plus}
-use Rattle.grammar.specs.Plain.{Says, Above, Field, Read, DigitsSaid, Closed}
+use Rattle.grammar.specs.Plain.{Says, Above, Field, NumberRead, SignedRead, DigitsSaid, Closed}
 
 -- a test that all bytes above a number pass runs to where it fails
 run-above : (p : ℕ → Bool) (m : ℕ) → ((b : ℕ) → m < b → p b ≡ true) → (l r : List ℕ) → Above m l → run p r ≡ 0 → run p (l ++ r) ≡ length l
@@ -31,9 +30,6 @@ run-above p m ok (b ∷ l) r h e = rw (ok b (h .0)) (ap suc (run-above p m ok l 
 in-line : (b : ℕ) → 31 < b → inLine b ≡ true
 in-line b h = rw (ne-eqb b 10 (omega arith))
 
-is-ink : (b : ℕ) → 32 < b → isInk b ≡ true
-is-ink b h = rw (ne-eqb b 32 (omega arith), ne-eqb b 9 (omega arith))
-
 no-blank : (b : ℕ) → 32 < b → isBlank b ≡ false
 no-blank b h = rw (ne-eqb b 32 (omega arith), ne-eqb b 9 (omega arith))
 
@@ -42,7 +38,7 @@ fields-front : (f l : List ℕ) → 0 < length f → Above 32 f → run isInk l 
 fields-front [] l s h e = absurd (omega arith)
 fields-front (b ∷ f) l s h e =
     fields-word b (f ++ l) (no-blank b (h .0))
-    ∙ rw (run-above isInk 32 is-ink (b ∷ f) l h e, take-append-seam (b ∷ f) l, drop-append-seam (b ∷ f) l)
+    ∙ rw (run-above isInk 32 (λ d k. ap not (no-blank d k)) (b ∷ f) l h e, take-append-seam (b ∷ f) l, drop-append-seam (b ∷ f) l)
 
 -- no CR stands in such a line
 no-cr : (l : List ℕ) (k : ℕ) → Above 31 l → getD l k 0 ≡ 13 → ⊥
@@ -50,9 +46,9 @@ no-cr [] k h e = omega arith
 no-cr (b ∷ l) zero h e = omega arith
 no-cr (b ∷ l) (suc k) h e = no-cr l k (h .1) e
 
-above-append : (f l : List ℕ) → Above 32 f → Above 31 l → Above 31 (f ++ l)
-above-append [] l i h = h
-above-append (b ∷ f) l i h = (omega arith, above-append f l (i .1) h)
+above-append : (m k : ℕ) → m ≤ k → (f l : List ℕ) → Above k f → Above m l → Above m (f ++ l)
+above-append m k e [] l i h = h
+above-append m k e (b ∷ f) l i h = (omega arith, above-append m k e f l (i .1) h)
 
 -- what a line of such bytes says
 clear-line : (l r : List ℕ) → Above 31 l → fields (trim (take (run inLine (l ++ 10 ∷ r)) (l ++ 10 ∷ r))) ≡ fields l
@@ -75,7 +71,7 @@ module _ {text : List ℕ} {at next : ℕ} {f : List ℕ} where
     rest = drop next text;
     stands = h .stands;
     next-is = h .next-is;
-    clear = rw append-nil at (above-append f [] (h .inks) tt);
+    clear = rw append-nil at (above-append 31 32 (omega arith) f [] (h .inks) tt);
     says = rw append-nil at (fields-front f [] (h .some) (h .inks) refl);
   }
 
@@ -85,7 +81,7 @@ module _ {text : List ℕ} {at next : ℕ} {f : List ℕ} where
     rest = r .rest;
     stands = h .stands ∙ rw (r .stands) (sym (append-assoc f (32 ∷ r .line) (10 ∷ r .rest)));
     next-is = omega (arith, length-append f (32 ∷ r .line), h .next-is, r .next-is);
-    clear = above-append f (32 ∷ r .line) (h .inks) (omega arith, r .clear);
+    clear = above-append 31 32 (omega arith) f (32 ∷ r .line) (h .inks) (omega arith, r .clear);
     says = fields-front f (32 ∷ r .line) (h .some) (h .inks) refl ∙ ap (λ (fs : List (List ℕ)). f ∷ fs) (r .says);
   }
 
@@ -109,17 +105,17 @@ word h e = record { stands = e; next-is = omega arith; some = omega arith; inks 
 
 -- what is said of a line, by what was read of it
 module _ {text : List ℕ} {at next : ℕ} where
-  pub arc-said : {u v w a b : ℕ} → drop at text ≡ 97 ∷ 32 ∷ drop (at + 2) text → Read text (at + 2) 32 a (λ f. number f ≡ Value u)
-      → Read text a 32 b (λ f. number f ≡ Value v) → Read text b 10 next (λ f. number f ≡ Value w) → Says Graph text at (Arc u v w) next
+  pub arc-said : {u v w a b : ℕ} → drop at text ≡ 97 ∷ 32 ∷ drop (at + 2) text → NumberRead text (at + 2) 32 u a
+      → NumberRead text a 32 v b → NumberRead text b 10 w next → Says Graph text at (Arc u v w) next
   arc-said s u v w =
       said (λ given. rw (u .known, v .known, w .known)) (more (word (omega arith) s) (more (u .here) (more (v .here) (last (w .here)))))
 
-  pub point-said : {v a b : ℕ} {x y : ℤ} → drop at text ≡ 118 ∷ 32 ∷ drop (at + 2) text → Read text (at + 2) 32 a (λ f. number f ≡ Value v)
-      → Read text a 32 b (λ f. signed f ≡ At x) → Read text b 10 next (λ f. signed f ≡ At y) → Says Coordinates text at (Point v x y) next
+  pub point-said : {v a b : ℕ} {x y : ℤ} → drop at text ≡ 118 ∷ 32 ∷ drop (at + 2) text → NumberRead text (at + 2) 32 v a
+      → SignedRead text a 32 x b → SignedRead text b 10 y next → Says Coordinates text at (Point v x y) next
   point-said s v x y =
       said (λ given. rw (v .known, x .known, y .known)) (more (word (omega arith) s) (more (v .here) (more (x .here) (last (y .here)))))
 
-  pub site-said : {v : ℕ} → drop at text ≡ 115 ∷ 32 ∷ drop (at + 2) text → Read text (at + 2) 10 next (λ f. number f ≡ Value v)
+  pub site-said : {v : ℕ} → drop at text ≡ 115 ∷ 32 ∷ drop (at + 2) text → NumberRead text (at + 2) 10 v next
       → Says Sites text at (Site v) next
   site-said s v = said (λ given. rw (v .known)) (more (word (omega arith) s) (last (v .here)))
 
@@ -138,18 +134,14 @@ digits-append (b ∷ f) g a v h = digits-by b f g a v (isDigit b) refl h (digits
 
 -- digits stand from a position to i, and v is their value
 pub record Sofar (text : List ℕ) (at i v : ℕ) : Type 0 where
-  pub digits-read : List ℕ
-  pub stands : drop at text ≡ digits-read ++ drop i text
-  pub size : i ≡ at + length digits-read
-  pub value : digits 0 digits-read ≡ Value v
-  pub inks : Above 32 digits-read
+  pub field : List ℕ
+  pub stands : drop at text ≡ field ++ drop i text
+  pub size : i ≡ at + length field
+  pub value : digits 0 field ≡ Value v
+  pub inks : Above 32 field
 
 pub sofar-none : (text : List ℕ) (at : ℕ) → Sofar text at at 0
-sofar-none text at = record { digits-read = []; stands = refl; size = omega arith; value = refl; inks = tt }
-
-above-more : (f : List ℕ) (b : ℕ) → Above 32 f → 32 < b → Above 32 (f ++ b ∷ [])
-above-more [] b h l = (l, tt)
-above-more (d ∷ f) b h l = (h .0, above-more f b (h .1) l)
+sofar-none text at = record { field = []; stands = refl; size = omega arith; value = refl; inks = tt }
 
 one-digit : (b d v : ℕ) → d ≤ 9 → b ≡ d + 48 → digits v (b ∷ []) ≡ Value (v * 10 + d)
 one-digit b d v l e =
@@ -162,19 +154,19 @@ small (b ∷ f) v l h = subst (Below 1000000000) (number-digits (b ∷ f) (omega
 
 module _ {text : List ℕ} {at i v : ℕ} (s : Sofar text at i v) where
   pub sofar-small : i < at + 10 → v < 1000000000
-  sofar-small h = small (s .digits-read) v (omega (arith, s .size)) (s .value)
+  sofar-small h = small (s .field) v (omega (arith, s .size)) (s .value)
 
   module _ (h : i < length text) where
-    sofar-byte : drop at text ≡ s .digits-read ++ getD text i 0 ∷ drop (i + 1) text
+    sofar-byte : drop at text ≡ s .field ++ getD text i 0 ∷ drop (i + 1) text
     sofar-byte = s .stands ∙ rw (add-one, drop-cons text i 0 h)
 
     pub sofar-more : (d : ℕ) → d ≤ 9 → getD text i 0 ≡ d + 48 → Sofar text at (i + 1) (v * 10 + d)
     sofar-more d l e = record {
-      digits-read = s .digits-read ++ getD text i 0 ∷ [];
-      stands = sofar-byte ∙ sym (append-assoc (s .digits-read) (getD text i 0 ∷ []) (drop (i + 1) text));
-      size = omega (arith, s .size, length-append (s .digits-read) (getD text i 0 ∷ []));
-      value = digits-append (s .digits-read) (getD text i 0 ∷ []) 0 v (s .value) ∙ one-digit (getD text i 0) d v l e;
-      inks = above-more (s .digits-read) (getD text i 0) (s .inks) (omega arith);
+      field = s .field ++ getD text i 0 ∷ [];
+      stands = sofar-byte ∙ sym (append-assoc (s .field) (getD text i 0 ∷ []) (drop (i + 1) text));
+      size = omega (arith, s .size, length-append (s .field) (getD text i 0 ∷ []));
+      value = digits-append (s .field) (getD text i 0 ∷ []) 0 v (s .value) ∙ one-digit (getD text i 0) d v l e;
+      inks = above-append 32 32 (omega arith) (s .field) (getD text i 0 ∷ []) (s .inks) (omega arith, tt);
     }
 
     pub sofar-closed : {end got next : ℕ} → i < at + 10 → Closed v at i (eqb (getD text i 0) end) got next → DigitsSaid text at end got next
@@ -182,14 +174,14 @@ module _ {text : List ℕ} {at i v : ℕ} (s : Sofar text at i v) where
       small = omega (arith, sofar-small few, c .small);
       inside = omega (arith, c .inside);
       said = λ e. let k = c .said e in rw (k .got-is, k .next-is) (record {
-        field = s .digits-read;
+        field = s .field;
         here = record {
           stands = rw (eqb-true (getD text i 0) end (k .end)) at sofar-byte;
           next-is = omega (arith, s .size);
           some = omega (arith, s .size, k .some);
           inks = s .inks;
         };
-        known = number-digits (s .digits-read) (omega (arith, s .size, k .some)) (omega (arith, s .size)) ∙ s .value;
+        known = number-digits (s .field) (omega (arith, s .size, k .some)) (omega (arith, s .size)) ∙ s .value;
       });
     }
 
@@ -203,15 +195,15 @@ no-minus [] v h e = omega arith
 no-minus (b ∷ f) v h e = no-digit (leb 1 (suc (length f)) && leb (suc (length f)) 9) v (rw e at h)
 
 module _ {text : List ℕ} {at end next v : ℕ} where
-  pub coordinate-plus : Read text at end next (λ f. number f ≡ Value v) → Read text at end next (λ f. signed f ≡ At (pos v))
+  pub coordinate-plus : NumberRead text at end v next → SignedRead text at end (pos v) next
   coordinate-plus r = record {
     field = r .field;
     here = r .here;
     known = sym (signed-plus (r .field) (no-minus (r .field) v (r .known)) (sym (r .known)));
   }
 
-  pub coordinate-minus : (at < length text) × (getD text at 0 ≡ 45) → Read text (at + 1) end next (λ f. number f ≡ Value v)
-      → Read text at end next (λ f. signed f ≡ At (negℤ (pos v)))
+  pub coordinate-minus : (at < length text) × (getD text at 0 ≡ 45) → NumberRead text (at + 1) end v next
+      → SignedRead text at end (negℤ (pos v)) next
   coordinate-minus h r = record {
     field = 45 ∷ r .field;
     here = record {

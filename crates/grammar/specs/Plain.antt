@@ -54,16 +54,22 @@ pub record Read (text : List ℕ) (at end next : ℕ) (Known : List ℕ → Type
   pub here : Field text at field end next
   pub known : Known field
 
+abbrev pub NumberRead : List ℕ → ℕ → ℕ → ℕ → ℕ → Type 0
+NumberRead text at end value next = Read text at end next (λ f. number f ≡ Value value)
+
+abbrev pub SignedRead : List ℕ → ℕ → ℕ → ℤ → ℕ → Type 0
+SignedRead text at end value next = Read text at end next (λ f. signed f ≡ At value)
+
 -- one to nine digits
 pub record DigitsSaid (text : List ℕ) (at end value next : ℕ) : Type 0 where
   pub small : value < 1000000000
   pub inside : next ≤ length text
-  pub said : (next ≡ 0 → ⊥) → Read text at end next (λ f. number f ≡ Value value)
+  pub said : (next ≡ 0 → ⊥) → NumberRead text at end value next
 
 -- the same, with or without a minus sign
 pub record CoordinateSaid (text : List ℕ) (at end : ℕ) (value : ℤ) (next : ℕ) : Type 0 where
   pub inside : next ≤ length text
-  pub said : (next ≡ 0 → ⊥) → Read text at end next (λ f. signed f ≡ At value)
+  pub said : (next ≡ 0 → ⊥) → SignedRead text at end value next
 
 -- how far the digits may go
 pub record Reached (text : List ℕ) (at most : ℕ) : Type 0 where

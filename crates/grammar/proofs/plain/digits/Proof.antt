@@ -47,7 +47,7 @@ loop-less : tie.Need-loop-less Inv-loop μ-loop
 loop-less c = search needs
 
 loop-again : tie.Need-loop-again Inv-loop μ-loop
-loop-again c = sofar-more (c .before .before .before .before .loop .inv) (omega arith) (c .before .wrapping-sub-u8 .result) (c .if1 .left) (omega (arith, c .before .wrapping-sub-u8 .ensures))
+loop-again c = sofar-more (c .before .before .before .before .loop .inv) (omega arith) (c .before .wrapping-sub-u8 .result) (omega arith) (omega (arith, c .before .wrapping-sub-u8 .ensures))
 
 returns-2 : tie.Need-returns-2 Inv-loop μ-loop
 returns-2 c = record { small = search needs; inside = search needs; said = λ h. absurd (h refl) }
