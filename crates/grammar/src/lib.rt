@@ -9,6 +9,11 @@ use meaning::Kind;
 use meaning::Line;
 use meaning::Number;
 use meaning::Signed;
+pub use plain::arc_at;
+pub use plain::point_at;
+pub use plain::site_at;
+
+mod plain;
 
 // A number, and no field after it.
 fn last_number(rest: &[u8]) -> Number

@@ -2,19 +2,13 @@
 use Prim.Native.Nat.{ℕ, _+_}
 use mathlib.Core.List.{List}
 use mathlib.Core.Bool.{cond}
-use lib.ListN.{length, take, drop}
+use lib.ListN.{length, drop}
 use lib.Dec.{ltb}
-use Rattle.meaning.specs.Text.{trim, fields}
-use Rattle.meaning.specs.Grammar.{lineOf}
 use Rattle.meaning.specs.declared.Kind.{Kind}
-use Rattle.meaning.specs.declared.Line.{Line}
 use Rattle.meaning.specs.declared.Line.the-variants.{Nothing}
 use Rattle.text.specs.Scan.{run, inLine}
+use Rattle.grammar.specs.Plain.{firstSays}
 use Rattle.reading.specs.declared.Said.{Said}
-
--- by the first line of the bytes
-abbrev pub firstSays : Kind → ℕ → List ℕ → Line
-firstSays kind given rest = lineOf kind given (fields (trim (take (run inLine rest) rest)))
 
 -- past the end nothing is said
 abbrev pub saidAt : Kind → ℕ → List ℕ → ℕ → Said

@@ -1,4 +1,4 @@
-// Judges a text: its size, the N handed in, and its lines in order. Nothing is written but the marks of the nodes given.
+// Judges a text: its size, the N handed in, and its lines in order. The marks of the nodes given are written, and a row for each entry.
 ghost use mathlib.Core.Path.{_≡_};
 ghost use mathlib.Core.List.{List};
 ghost use Prim.Native.Nat.{ℕ, _*_, _≤_};
@@ -9,7 +9,8 @@ ghost use Rattle.meaning.specs.Files.{Progress, within as isWithin, isCoordinat
 ghost use Rattle.meaning.specs.Text.{lines};
 ghost use Rattle.meaning.specs.Checks.{orElse};
 ghost use Rattle.reading.specs.Said.{saidAt};
-ghost use Rattle.reading.specs.Follows.{stateOf, onlyOnce, tooMany, dataFault, Keeps, Follows};
+ghost use Rattle.reading.specs.Rows.{columns, Wide, RowsRead};
+ghost use Rattle.reading.specs.Follows.{stateOf, movedTo, onlyOnce, tooMany, dataFault, Keeps, Follows};
 use meaning::COUNT_OUTSIDE;
 use meaning::Counts;
 use meaning::DATA_MISCOUNTED;
@@ -30,24 +31,24 @@ use text::Piece;
 
 mod marks;
 
-// How far the lines have been judged: whether the problem line has been, its counts, and the data lines since.
+// How far the lines have been judged: where the next one starts, the counts of the problem line, no nodes before it, and the data lines since.
 struct State {
-    begun: bool,
+    at: usize,
     nodes: usize,
     rows: usize,
     count: usize,
 }
 
-// After a line: on, or a refusal's number.
-enum Step {
-    On(State),
-    Stop(usize),
+// After a line: a refusal's number, 0 to go on.
+struct Step {
+    number: usize,
+    state: State,
 }
 
 // What a line says, and where the next starts.
-pub struct Said {
-    pub line: Line,
-    pub next: usize,
+struct Said {
+    line: Line,
+    next: usize,
 }
 
 pub fn within(lo: usize, x: usize, hi: usize) -> bool
@@ -175,23 +176,38 @@ fn only_once(e: Entry, given: bool) -> bool
     }
 }
 
-// A problem line.
-fn begun(rules: Rules, st: State, c: Counts) -> Step
-    ensures { λ r. ⌜ ((seen : List ℕ) (p : Progress) → Keeps (rules .limits .nodes) st seen p → Follows (rules .limits .nodes) r seen (step rules p (Line.Problem c))) ⌝ }
+// The state, with the next line starting elsewhere.
+fn moved(st: State, at: usize) -> State
+    ensures { λ r. ⌜ r ≡ movedTo st at ⌝ }
 {
-    if st.begun {
-        return Step::Stop(PROBLEM_MISPLACED);
+    State {
+        at,
+        nodes: st.nodes,
+        rows: st.rows,
+        count: st.count,
     }
-    let fault = counts_fault(rules, c);
-    if fault == 0 {
-        Step::On(State {
-            begun: true,
+}
+
+// A problem line.
+fn begun(rules: Rules, st: State, c: Counts) -> Step {
+    if st.nodes != 0 {
+        return Step {
+            number: PROBLEM_MISPLACED,
+            state: st,
+        };
+    }
+    let number = counts_fault(rules, c);
+    if number != 0 {
+        return Step { number, state: st };
+    }
+    Step {
+        number: 0,
+        state: State {
+            at: st.at,
             nodes: c.nodes,
             rows: c.rows,
             count: 0,
-        })
-    } else {
-        Step::Stop(fault)
+        },
     }
 }
 
@@ -216,50 +232,97 @@ fn data_fault(limits: Limits, st: State, e: Entry) -> usize
     or_else(seventh, entry_fault(limits, st.nodes, e))
 }
 
-// A data line. Its node is marked in any text; an arc may repeat one.
-fn added(rules: Rules, st: State, seen: &mut [u32], e: Entry) -> Step
-    requires { ⌜ (st .nodes ≤ rules .limits .nodes) × (rules .limits .nodes ≤ 32 * length (now seen)) ⌝ }
-    ensures { λ r. ⌜ ((p : Progress) → Keeps (rules .limits .nodes) st (now (seen .entry)) p → Follows (rules .limits .nodes) r (now (seen .exit)) (step rules p (Line.Data e))) ⌝ }
-{
-    if !st.begun {
-        return Step::Stop(PROBLEM_MISPLACED);
+// What a row has beside its node: head and weight, or X and Y.
+fn second_of(e: Entry) -> i32 {
+    match e {
+        Entry::Arc { head, .. } => head as i32,
+        Entry::Point { x, .. } => x,
+        Entry::Site { .. } => 0,
     }
-    let limits = rules.limits;
-    let fault = data_fault(limits, st, e);
-    if fault != 0 {
-        return Step::Stop(fault);
-    }
-    let k = node_of(e) - 1;
-    if only_once(e, marks::marked(seen, k)) {
-        return Step::Stop(GIVEN_TWICE);
-    }
-    marks::mark(seen, k);
-    Step::On(State {
-        begun: true,
-        nodes: st.nodes,
-        rows: st.rows,
-        count: st.count + 1,
-    })
 }
 
-// A line.
-fn advanced(rules: Rules, st: State, seen: &mut [u32], line: Line) -> Step
-    requires { ⌜ (st .nodes ≤ rules .limits .nodes) × (rules .limits .nodes ≤ 32 * length (now seen)) ⌝ }
-    ensures { λ r. ⌜ ((p : Progress) → Keeps (rules .limits .nodes) st (now (seen .entry)) p → Follows (rules .limits .nodes) r (now (seen .exit)) (step rules p line)) ⌝ }
-{
+fn third_of(e: Entry) -> i32 {
+    match e {
+        Entry::Arc { weight, .. } => weight as i32,
+        Entry::Point { y, .. } => y,
+        Entry::Site { .. } => 0,
+    }
+}
+
+// A data line. Its node is marked in any text; an arc may repeat one. An entry without a fault is kept as a row.
+fn added(
+    rules: Rules,
+    st: State,
+    seen: &mut [u32],
+    nodes: &mut [u16],
+    seconds: &mut [i32],
+    thirds: &mut [i32],
+    e: Entry,
+) -> Step {
+    if st.nodes == 0 {
+        return Step {
+            number: PROBLEM_MISPLACED,
+            state: st,
+        };
+    }
+    let limits = rules.limits;
+    let number = data_fault(limits, st, e);
+    if number != 0 {
+        return Step { number, state: st };
+    }
+    let node = node_of(e);
+    let k = node - 1;
+    if only_once(e, marks::marked(seen, k)) {
+        return Step {
+            number: GIVEN_TWICE,
+            state: st,
+        };
+    }
+    marks::mark(seen, k);
+    let i = st.count;
+    nodes[i] = node as u16;
+    seconds[i] = second_of(e);
+    thirds[i] = third_of(e);
+    Step {
+        number: 0,
+        state: State {
+            at: st.at,
+            nodes: st.nodes,
+            rows: st.rows,
+            count: i + 1,
+        },
+    }
+}
+
+// A line, by what it says.
+fn advanced(
+    rules: Rules,
+    st: State,
+    seen: &mut [u32],
+    nodes: &mut [u16],
+    seconds: &mut [i32],
+    thirds: &mut [i32],
+    line: Line,
+) -> Step {
     match line {
-        Line::Nothing => Step::On(st),
+        Line::Nothing => Step {
+            number: 0,
+            state: st,
+        },
         Line::Problem(c) => begun(rules, st, c),
-        Line::Data(e) => added(rules, st, seen, e),
-        Line::Malformed => Step::Stop(NOT_PERMITTED),
+        Line::Data(e) => added(rules, st, seen, nodes, seconds, thirds, e),
+        Line::Malformed => Step {
+            number: NOT_PERMITTED,
+            state: st,
+        },
     }
 }
 
 // At the end of the text: 3, then 7.
 fn finished(st: State) -> Read
-    ensures { λ r. ⌜ ((p : Progress) → st ≡ stateOf p → r ≡ answered (finish p)) ⌝ }
+    ensures { λ r. ⌜ ((p : Progress) → st ≡ stateOf (st .at) p → r ≡ answered (finish p)) ⌝ }
 {
-    if !st.begun {
+    if st.nodes == 0 {
         return Read::Refused {
             number: PROBLEM_MISPLACED,
             place: 0,
@@ -290,7 +353,7 @@ fn handed_in(limits: Limits, kind: Kind, n: usize) -> bool
 }
 
 // What the line that starts at a position says.
-pub fn said_at(kind: Kind, given: usize, text: &[u8], at: usize) -> Said
+fn said_at(kind: Kind, given: usize, text: &[u8], at: usize) -> Said
     ensures { λ r. ⌜ r ≡ saidAt kind given (now (text .entry)) at ⌝ }
 {
     match text::line_at(text, at) {
@@ -306,41 +369,151 @@ pub fn said_at(kind: Kind, given: usize, text: &[u8], at: usize) -> Said
     }
 }
 
-// The lines in order, of a text whose size and handed-in N have been tested.
-fn judge(rules: Rules, text: &[u8]) -> Read
-    requires { ⌜ rules .limits .nodes ≤ 1024 ⌝ }
-    ensures { λ r. ⌜ r ≡ answered (readFrom rules (lines (now (text .entry))) Progress.awaiting 0) ⌝ }
-{
+// The next line in whatever form, field by field.
+fn any_line(
+    rules: Rules,
+    st: State,
+    text: &[u8],
+    seen: &mut [u32],
+    nodes: &mut [u16],
+    seconds: &mut [i32],
+    thirds: &mut [i32],
+) -> Step {
     let kind = rules.kind;
-    let given = rules.given;
+    let at = st.at;
+    let said = said_at(kind, rules.given, text, at);
+    let line = said.line;
+    advanced(
+        rules,
+        moved(st, said.next),
+        seen,
+        nodes,
+        seconds,
+        thirds,
+        line,
+    )
+}
+
+// The next line of a graph text.
+fn arc_line(
+    rules: Rules,
+    st: State,
+    text: &[u8],
+    seen: &mut [u32],
+    nodes: &mut [u16],
+    seconds: &mut [i32],
+    thirds: &mut [i32],
+) -> Step {
+    let row = grammar::arc_at(text, st.at);
+    if row.next == 0 {
+        return any_line(rules, st, text, seen, nodes, seconds, thirds);
+    }
+    let e = Entry::Arc {
+        tail: row.tail,
+        head: row.head,
+        weight: row.weight,
+    };
+    added(rules, moved(st, row.next), seen, nodes, seconds, thirds, e)
+}
+
+// The next line of a coordinate text.
+fn point_line(
+    rules: Rules,
+    st: State,
+    text: &[u8],
+    seen: &mut [u32],
+    nodes: &mut [u16],
+    seconds: &mut [i32],
+    thirds: &mut [i32],
+) -> Step {
+    let row = grammar::point_at(text, st.at);
+    if row.next == 0 {
+        return any_line(rules, st, text, seen, nodes, seconds, thirds);
+    }
+    let e = Entry::Point {
+        node: row.node,
+        x: row.x,
+        y: row.y,
+    };
+    added(rules, moved(st, row.next), seen, nodes, seconds, thirds, e)
+}
+
+// The next line of a site text.
+fn site_line(
+    rules: Rules,
+    st: State,
+    text: &[u8],
+    seen: &mut [u32],
+    nodes: &mut [u16],
+    seconds: &mut [i32],
+    thirds: &mut [i32],
+) -> Step {
+    let row = grammar::site_at(text, st.at);
+    if row.next == 0 {
+        return any_line(rules, st, text, seen, nodes, seconds, thirds);
+    }
+    let e = Entry::Site { node: row.node };
+    added(rules, moved(st, row.next), seen, nodes, seconds, thirds, e)
+}
+
+// The next line. A plain data line is read in one go, any other field by field.
+fn next_line(
+    rules: Rules,
+    st: State,
+    text: &[u8],
+    seen: &mut [u32],
+    nodes: &mut [u16],
+    seconds: &mut [i32],
+    thirds: &mut [i32],
+) -> Step {
+    let kind = rules.kind;
+    match kind {
+        Kind::Graph => arc_line(rules, st, text, seen, nodes, seconds, thirds),
+        Kind::Coordinates => point_line(rules, st, text, seen, nodes, seconds, thirds),
+        Kind::Sites => site_line(rules, st, text, seen, nodes, seconds, thirds),
+    }
+}
+
+// The lines in order, of a text whose size and handed-in N have been tested.
+fn judge(
+    rules: Rules,
+    text: &[u8],
+    nodes: &mut [u16],
+    seconds: &mut [i32],
+    thirds: &mut [i32],
+) -> Read {
     let mut seen = [0u32; 32];
     let mut st = State {
-        begun: false,
+        at: 0,
         nodes: 0,
         rows: 0,
         count: 0,
     };
-    let mut at = 0;
     let mut place: usize = 0;
-    while at < text.len() {
-        let said = said_at(kind, given, text, at);
-        let line = said.line;
+    while st.at < text.len() {
+        let step = next_line(rules, st, text, &mut seen, nodes, seconds, thirds);
         place += 1;
-        match advanced(rules, st, &mut seen, line) {
-            Step::On(next) => {
-                st = next;
-            }
-            Step::Stop(number) => {
-                return Read::Refused { number, place };
-            }
+        let number = step.number;
+        if number != 0 {
+            return Read::Refused { number, place };
         }
-        at = said.next;
+        st = step.state;
     }
     finished(st)
 }
 
 // The answer of a reader: 1, then a handed-in N 4, then the lines.
-pub fn judged(kind: Kind, given: usize, room: usize, text: &[u8]) -> Read
+pub fn judged(
+    kind: Kind,
+    given: usize,
+    room: usize,
+    text: &[u8],
+    nodes: &mut [u16],
+    seconds: &mut [i32],
+    thirds: &mut [i32],
+) -> Read
+    requires { ⌜ Wide kind (columns (now nodes) (now seconds) (now thirds)) ⌝ }
+    ensures { λ r. ⌜ RowsRead (reading (record { limits = base; kind = kind; given = given; room = room }) (now (text .entry))) (columns (now (nodes .exit)) (now (seconds .exit)) (now (thirds .exit))) ⌝ }
     ensures { λ r. ⌜ r ≡ answered (reading (record { limits = base; kind = kind; given = given; room = room }) (now (text .entry))) ⌝ }
 {
     let limits = meaning::base();
@@ -364,5 +537,8 @@ pub fn judged(kind: Kind, given: usize, room: usize, text: &[u8]) -> Read
             room,
         },
         text,
+        nodes,
+        seconds,
+        thirds,
     )
 }

@@ -1,0 +1,2 @@
+-- what a plain line says
+pub mod Plain
