@@ -1,5 +1,5 @@
 -- The size of a coordinate, by way of an i64.
-use Prim.Native.Nat.{ℕ, zero, suc, _<_}
+use Prim.Native.Nat.{ℕ, zero, suc, _≤_, _<_}
 use mathlib.Core.Path.{_≡_, refl, ap, sym, _∙_, subst}
 use mathlib.Core.Bool.{true, false}
 use lib.Dec.{T}
@@ -74,6 +74,14 @@ module _ (z : ℤ) (f : SFits w32 z) where
 
   pub wide-abs : natAbs (wideOf z) ≡ natAbs z
   wide-abs = ap natAbs wide-is
+
+-- a small number as an i32
+module _ (n : ℕ) (h : n ≤ 1000000) where
+  pub small-fits : SFits w32 (pos n)
+  small-fits = record { sfits = omega arith }
+
+  pub small-held : toZ w32 n ≡ pos n
+  small-held = toZ-ofZ small-fits
 
 -- a point's two, handed on
 pub held-both : (L : Limits) (n v : ℕ) (x y : ℤ) → SFits w32 x → SFits w32 y

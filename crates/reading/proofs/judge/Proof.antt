@@ -1,77 +1,75 @@
-use Rattle.reading.specs.declared.Said.{Said}
-use Rattle.reading.proofs.Lines.{Judged, judged-start, judged-stop, judged-on, judged-end, next-low}
-use borrow.Author.Needs.{needs}
-use native.Mathlib.Omega.{arith}
-use Prim.Native.Nat.{_+_, _-_}
-use mathlib.Core.Path.{ap, sym, _∙_}
-use lib.ListN.{length}
 use Rattle.reading.proofs.judge.Statement.{statement}
 use Rattle.reading.proofs.judge.Tie as tie
+use Rattle.reading.proofs.judge.Reads as reads
+use Rattle.reading.proofs.judge.Lts as lts
+use Rattle.reading.proofs.finished.Reads as finished-reads
+use Rattle.reading.proofs.next_line.Reads as next-line-reads
 
 abbrev Inv-loop : tie.InvT-loop
-Inv-loop rules text kind given seen₀ st₀ at₀ place₀ seen st at place = Judged rules text seen st at place
+Inv-loop rules text nodes₀ seconds₀ thirds₀ seen₀ st₀ place₀ nodes seconds thirds seen st place = ?
 
 abbrev μ-loop : tie.MeasureT-loop
-μ-loop rules text kind given seen₀ st₀ at₀ place₀ seen st at place = (length text + 1) - at
+μ-loop rules text nodes₀ seconds₀ thirds₀ seen₀ st₀ place₀ nodes seconds thirds seen st place = ?
 
+-- src/lib.rt:534:5
 loop-holds : tie.Need-loop-holds Inv-loop μ-loop
-loop-holds c = judged-start _ _
+loop-holds c = ?
 
-said-at-requires : tie.Need-said-at-requires Inv-loop μ-loop
-said-at-requires c κs = search needs
+-- src/lib.rt:535:47
+slice-aggregate-next-line : tie.Need-slice-aggregate-next-line Inv-loop μ-loop
+slice-aggregate-next-line c = ?
 
+-- src/lib.rt:535:13
+next-line-requires : tie.Need-next-line-requires Inv-loop μ-loop
+next-line-requires c κs = ?
+
+-- src/lib.rt:536:9
 add-place : tie.Need-add-place Inv-loop μ-loop
-add-place c = omega (arith, c .before .before .loop .inv)
+add-place c = ?
 
-slice-aggregate-advanced : tie.Need-slice-aggregate-advanced Inv-loop μ-loop
-slice-aggregate-advanced c = sym (c .before .before .before .loop .inv .size)
+-- src/lib.rt:539:13
+same-length : tie.Need-same-length Inv-loop μ-loop
+same-length c = ?
 
-advanced-requires : tie.Need-advanced-requires Inv-loop μ-loop
-advanced-requires c κs =
-    let loop = c .before .before .before in
-    let start = loop .before .before in
-    omega (arith, loop .loop .inv .size, loop .loop .inv .keeps .few, start .pre)
+-- src/lib.rt:539:13
+same-length-2 : tie.Need-same-length-2 Inv-loop μ-loop
+same-length-2 c = ?
 
-enum-known-next : tie.Need-enum-known-next Inv-loop μ-loop
-enum-known-next c = search needs
+-- src/lib.rt:539:13
+same-length-3 : tie.Need-same-length-3 Inv-loop μ-loop
+same-length-3 c = ?
 
-enum-known-number : tie.Need-enum-known-number Inv-loop μ-loop
-enum-known-number c = search needs
-
+-- src/lib.rt:539:13
 returns : tie.Need-returns Inv-loop μ-loop
-returns c =
-    let advanced = c .before .before .before .before in
-    let said-at = advanced .before .before in
-    let test = said-at .before in
-    let loop = test .before in
-    let start = loop .before .before in
-    judged-stop (start .args .rules) (start .args .text .now) (loop .loop .seen) (loop .loop .st) (loop .loop .at) (loop .loop .place) (loop .loop .inv) (test .loop-test .taken) (said-at .said-at .result) (said-at .said-at .ensures) _ _ (rw (c .before .number .given .1) at (advanced .advanced .ensures (loop .loop .inv .progress) (loop .loop .inv .keeps)))
+returns c = ?
 
+-- src/lib.rt:534:5
 loop-less : tie.Need-loop-less Inv-loop μ-loop
-loop-less c =
-    let said-at = c .before .before .before .before .before .before in
-    let test = said-at .before in
-    let loop = test .before in
-    let start = loop .before .before in
-    omega (arith, ap (λ (s : Said). s .next) (said-at .said-at .ensures), next-low (start .args .rules .kind) (start .args .rules .given) (start .args .text .now) (loop .loop .at) (test .loop-test .taken), loop .loop .inv .high)
+loop-less c = ?
 
+-- src/lib.rt:534:5
 loop-again : tie.Need-loop-again Inv-loop μ-loop
-loop-again c =
-    let advanced = c .before .before .before .before in
-    let said-at = advanced .before .before in
-    let test = said-at .before in
-    let loop = test .before in
-    let start = loop .before .before in
-    judged-on (start .args .rules) (start .args .text .now) (loop .loop .seen) (loop .loop .st) (loop .loop .at) (loop .loop .place) (loop .loop .inv) (test .loop-test .taken) (said-at .said-at .result) (said-at .said-at .ensures) _ _ (advanced .advanced .kept .1 .1 .0 ∙ loop .loop .inv .size) (rw (c .before .next .given .1) at (advanced .advanced .ensures (loop .loop .inv .progress) (loop .loop .inv .keeps)))
+loop-again c = ?
 
+-- src/lib.rt:543:5
 finished-requires : tie.Need-finished-requires Inv-loop μ-loop
-finished-requires c κs = search needs
+finished-requires c κs = ?
 
+-- src/lib.rt:514:1
+same-length-4 : tie.Need-same-length-4 Inv-loop μ-loop
+same-length-4 c = ?
+
+-- src/lib.rt:514:1
+same-length-5 : tie.Need-same-length-5 Inv-loop μ-loop
+same-length-5 c = ?
+
+-- src/lib.rt:514:1
+same-length-6 : tie.Need-same-length-6 Inv-loop μ-loop
+same-length-6 c = ?
+
+-- src/lib.rt:514:1
 returns-2 : tie.Need-returns-2 Inv-loop μ-loop
-returns-2 c =
-    let loop = c .before .before in
-    let start = loop .before .before in
-    c .finished .ensures (loop .loop .inv .progress) (loop .loop .inv .keeps .state) ∙ judged-end (start .args .rules) (start .args .text .now) (loop .loop .seen) (loop .loop .st) (loop .loop .at) (loop .loop .place) (loop .loop .inv) (c .before .loop-test .left)
+returns-2 c = ?
 
 pub judge-spec : {M : Type 1} → statement M
 judge-spec =
@@ -80,14 +78,17 @@ judge-spec =
     Inv-loop
     μ-loop
     loop-holds
-    said-at-requires
+    slice-aggregate-next-line
+    next-line-requires
     add-place
-    slice-aggregate-advanced
-    advanced-requires
-    enum-known-next
-    enum-known-number
+    same-length
+    same-length-2
+    same-length-3
     returns
     loop-less
     loop-again
     finished-requires
+    same-length-4
+    same-length-5
+    same-length-6
     returns-2)
