@@ -18,6 +18,8 @@ use Rattle.meaning.specs.declared.Limits.{Limits}
 use Rattle.meaning.specs.declared.Read.{Read}
 use Rattle.meaning.specs.declared.Kind.{Kind}
 use Rattle.meaning.specs.declared.Line.{Line}
+use Rattle.meaning.specs.declared.Line.the-variants.{Data}
+use Rattle.meaning.specs.declared.Entry.{Entry}
 use Rattle.meaning.specs.declared.Read.the-variants.{Refused}
 use Rattle.meaning.specs.declared.Rules.{Rules}
 use Rattle.text.specs.Scan.{run, inLine}
@@ -25,11 +27,14 @@ use Rattle.text.specs.Read.{pieceAt}
 use Rattle.text.specs.declared.Piece.{Piece}
 use Rattle.text.specs.declared.Piece.the-variants as Piece
 use Rattle.text.proofs.Laws.{run-le, lines-cut}
-use Rattle.reading.specs.Said.{firstSays, saidAt}
-use Rattle.reading.specs.Follows.{stateOf, Keeps, Follows}
+use Rattle.grammar.specs.Plain.{firstSays, Says}
+use Rattle.reading.specs.Said.{saidAt}
+use Rattle.reading.specs.Rows.{Columns, columns, Wide, Rows, RowsRead}
+use Rattle.reading.specs.Follows.{movedTo, Ready, Stands, entriesSince, Keeps, Went, Follows, Answers, AnswersNext}
 use Rattle.reading.specs.declared.Said.{Said}
 use Rattle.reading.specs.declared.State.{State}
-use Rattle.reading.specs.declared.Step.the-variants.{On, Stop}
+use Rattle.reading.specs.declared.Step.{Step}
+use Rattle.reading.proofs.Steps.{stands-few, stands-room}
 
 -- ---- what the code finds at a position
 
@@ -95,81 +100,19 @@ module _ (K : Kind) (g : ℕ) (text : List ℕ) (at : ℕ) (h : at < length text
       ∙ ap (λ (r : List ℕ). take (run inLine (drop at text)) (drop at text) ∷ lines r)
       (drop-drop (suc (run inLine (drop at text))) at text ∙ ap (λ (k : ℕ). drop k text) i)
 
--- ---- the judging loop: what is left to read gives the whole reading
+-- ---- the code's answer to the line at a position
 
-pub record Judged (R : Rules) (text seen : List ℕ) (st : State) (at place : ℕ) : Type 0 where
-  pub progress : Progress
-  pub keeps : Keeps (R .limits .nodes) st seen progress
-  pub size : length seen ≡ 32
-  pub low : place ≤ at
-  pub high : at ≤ length text + 1
-  pub same : readFrom R (lines text) awaiting 0 ≡ readFrom R (lines (drop at text)) progress place
+-- a line that was read in one go
+pub says-said : (K : Kind) (g : ℕ) (text : List ℕ) (at next : ℕ) (e : Entry) → Says K text at e next → record { line = Data e; next = next } ≡ saidAt K g text at
+says-said K g text at next e s = rw (lt-ltb at (length text) (s .some), s .line g, ← s .next-is)
 
-follow-stop : (n a : ℕ) (seen : List ℕ) (x : Next) → Follows n (Stop a) seen x → x ≡ stop a
-follow-stop n a seen (stop number) h = ap stop (sym h)
-follow-stop n a seen (go p) h = absurd h
+module _ (R : Rules) (text : List ℕ) (s : State) (said : Said) (said-is : said ≡ saidAt (R .kind) (R .given) text (s .at)) (moved : State) (moved-is : moved ≡ movedTo s (said .next)) where
+  pub moved-ready : (seen : List ℕ) (C : Columns) → Ready R (s .nodes) (s .rows) seen C → Ready R (moved .nodes) (moved .rows) seen C
+  moved-ready seen C h = rw moved-is h
 
-record Went (n : ℕ) (s : State) (seen : List ℕ) (x : Next) : Type 0 where
-  pub progress : Progress
-  pub same : x ≡ go progress
-  pub keeps : Keeps n s seen progress
-
-follow-on : (n : ℕ) (s : State) (seen : List ℕ) (x : Next) → Follows n (On s) seen x → Went n s seen x
-follow-on n s seen (stop number) h = absurd h
-follow-on n s seen (go p) h = record { progress = p; same = refl; keeps = h }
-
-module _ (R : Rules) (text seen : List ℕ) (st : State) (at place : ℕ) (j : Judged R text seen st at place) (h : at < length text) (said : Said) (e : said ≡ saidAt (R .kind) (R .given) text at) where
-  abbrev after : List ℕ
-  after = drop (saidAt (R .kind) (R .given) text at .next) text
-
-  here : readFrom R (lines text) awaiting 0 ≡ onNext (step R (j .progress) (said .line)) (suc place) (λ p. readFrom R (lines after) p (suc place))
-  here =
-      j .same ∙ ap (λ (ls : List (List ℕ)). readFrom R ls (j .progress) place) (lines-at (R .kind) (R .given) text at h)
-      ∙ ap (λ (l : Line). onNext (step R (j .progress) l) (suc place) (λ p. readFrom R (lines after) p (suc place)))
-      (sym (ap (λ (s : Said). s .line) e ∙ line-is (R .kind) (R .given) text at h))
-
-  pub judged-stop : (a : ℕ) (seen′ : List ℕ) → Follows (R .limits .nodes) (Stop a) seen′ (step R (j .progress) (said .line))
-      → Refused a (place + 1) ≡ answered (readFrom R (lines text) awaiting 0)
-  judged-stop a seen′ f =
-      sym (ap answered (here ∙ ap (λ (x : Next). onNext x (suc place) (λ p. readFrom R (lines after) p (suc place))) (follow-stop (R .limits .nodes) a seen′ (step R (j .progress) (said .line)) f))
-      ∙ ap (Refused a) (sym (add-one place)))
-
-  pub judged-on : (s : State) (seen′ : List ℕ) → length seen′ ≡ 32 → Follows (R .limits .nodes) (On s) seen′ (step R (j .progress) (said .line))
-      → Judged R text seen′ s (said .next) (place + 1)
-  judged-on s seen′ z f =
-      let w : Went (R .limits .nodes) s seen′ (step R (j .progress) (said .line)) = follow-on (R .limits .nodes) s seen′ (step R (j .progress) (said .line)) f in
-      let n : said .next ≡ saidAt (R .kind) (R .given) text at .next = ap (λ (t : Said). t .next) e in
-      record {
-        progress = w .progress;
-        keeps = w .keeps;
-        size = z;
-        low = omega (arith, j .low, next-low (R .kind) (R .given) text at h);
-        high = omega (arith, next-high (R .kind) (R .given) text at h);
-        same =
-            here ∙ ap (λ (x : Next). onNext x (suc place) (λ p. readFrom R (lines after) p (suc place))) (w .same)
-            ∙ ap (λ (k : ℕ). readFrom R (lines (drop k text)) (w .progress) (suc place)) (sym n)
-            ∙ ap (readFrom R (lines (drop (said .next) text)) (w .progress)) (sym (add-one place));
-      }
-
-pub judged-end : (R : Rules) (text seen : List ℕ) (st : State) (at place : ℕ) (j : Judged R text seen st at place) → length text ≤ at
-    → answered (finish (j .progress)) ≡ answered (readFrom R (lines text) awaiting 0)
-judged-end R text seen st at place j h =
-    sym (ap answered (j .same ∙ ap (λ (r : List ℕ). readFrom R (lines r) (j .progress) place) (drop-of-length-le text h)))
-
-blank-word : (n i : ℕ) → _≡_ {A = ℕ} (getD (replicate n zero) i zero) zero
-blank-word zero i = refl
-blank-word (suc n) zero = refl
-blank-word (suc n) (suc i) = blank-word n i
-
-pub judged-start : (R : Rules) (text : List ℕ) → Judged R text (replicate 32 0) (stateOf awaiting) 0 0
-judged-start R text = record {
-  progress = awaiting;
-  keeps = record { state = refl; tracks = λ k h. rw (blank-word 32 (k / 32), zero-div (2 ^ (k % 32))); few = omega arith };
-  size = refl;
-  low = omega arith;
-  high = omega arith;
-  same = refl;
-}
+  pub moved-answers : (seen : List ℕ) (C : Columns) (r : Step) (seen′ : List ℕ) (C′ : Columns)
+      → Answers R moved seen C (said .line) (moved .at) r seen′ C′ → AnswersNext R text s seen C r seen′ C′
+  moved-answers seen C r seen′ C′ h = rw (← said-is) (rw moved-is at h)
 
 -- ---- before the lines
 

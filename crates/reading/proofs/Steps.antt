@@ -14,7 +14,7 @@ use Rattle.meaning.specs.Limits.{base}
 use Rattle.meaning.specs.Checks.{orElse}
 use Rattle.meaning.specs.Files.{within, mostRows, agrees, countsFault, entryFault, nodeOf, isGiven, repeated, Progress, awaiting, begun, step, finish, answered}
 use Rattle.meaning.proofs.Tests.{both, passed, failed, within-is, else-zero, else-later, else-first}
-use Rattle.meaning.proofs.Reading.{NodeFine, arc-fine, node-fine, given-more}
+use Rattle.meaning.proofs.Reading.{arc-fine, node-fine, given-more}
 use Rattle.meaning.specs.declared.Limits.{Limits}
 use Rattle.meaning.specs.declared.Rules.{Rules}
 use Rattle.meaning.specs.declared.Counts.{Counts}
@@ -24,7 +24,7 @@ use Rattle.meaning.specs.declared.Line.the-variants.{Problem, Data}
 use Rattle.meaning.specs.declared.Read.the-variants.{Refused, Accepted}
 use Rattle.reading.specs.Marks.{isMarked, Added}
 use Rattle.reading.specs.Rows.{Columns, columns, secondOf, thirdOf, Rows}
-use Rattle.reading.specs.Follows.{onlyOnce, tooMany, dataFault, Small, Ready, Counted, Stands, Tracks, Keeps, Follows}
+use Rattle.reading.specs.Follows.{onlyOnce, tooMany, dataFault, Small, Ready, Counted, Stands, Tracks, Follows, Answers, AnswersProblem}
 use Rattle.reading.specs.declared.State.{State}
 use Rattle.reading.specs.declared.Step.{Step}
 
@@ -48,30 +48,37 @@ counts-fine R c h =
 has-nodes : (R : Rules) (nodes rows count : ℕ) (c : Counts) (es : List Entry) → Counted R nodes rows count c es → nodes ≡ 0 → ⊥
 has-nodes R nodes rows count c es q h = omega (arith, counts-fine R c (q .fine), q .nodes-are)
 
+module _ (R : Rules) (nodes rows count : ℕ) where
+  pub stands-few : (p : Progress) → Stands R nodes rows count p → nodes ≤ R .limits .nodes
+  stands-few awaiting q = omega (arith, q .0)
+  stands-few (begun c es) q = omega (arith, counts-fine R c (q .fine), q .nodes-are)
+
+  pub stands-room : (p : Progress) → Stands R nodes rows count p → rows ≤ mostRows (R .limits) (R .kind)
+  stands-room awaiting q = omega (arith, q .1)
+  stands-room (begun c es) q = omega (arith, counts-fine R c (q .fine), q .rows-are)
+
 -- ---- a problem line
 
 abbrev refusing : ℕ → State → Step
 refusing number s = record { number = number; state = s }
 
-module _ (R : Rules) (c : Counts) (s : State) (seen : List ℕ) (C : Columns) where
-  pub problem-again : (p : Progress) → Stands R (s .nodes) (s .rows) (s .count) p → (s .nodes ≡ 0 → ⊥) → Follows R (s .at) (refusing 3 s) seen C (step R p (Problem c))
-  problem-again awaiting q h = absurd (h (q .0))
-  problem-again (begun d es) q h = (refl, λ o. omega arith)
+module _ (R : Rules) (c : Counts) (s : State) where
+  pub problem-again : (s .nodes ≡ 0 → ⊥) → AnswersProblem R s c (refusing 3 s)
+  problem-again h seen C awaiting k = absurd (h (k .stands .0))
+  problem-again h seen C (begun d es) k = (refl, λ o. omega arith)
 
   module _ (none : s .nodes ≡ 0) where
-    pub problem-fault : (p : Progress) (fault : ℕ) → Stands R (s .nodes) (s .rows) (s .count) p → fault ≡ countsFault R c → (fault ≡ 0 → ⊥)
-        → Follows R (s .at) (refusing fault s) seen C (step R p (Problem c))
-    problem-fault awaiting fault q e z = rw (← e, ne-eqb fault 0 z) (refl, z)
-    problem-fault (begun d es) fault q e z = absurd (has-nodes R (s .nodes) (s .rows) (s .count) d es q none)
+    pub problem-fault : (fault : ℕ) → fault ≡ countsFault R c → (fault ≡ 0 → ⊥) → AnswersProblem R s c (refusing fault s)
+    problem-fault fault e z seen C awaiting k = rw (← e, ne-eqb fault 0 z) (refl, z)
+    problem-fault fault e z seen C (begun d es) k = absurd (has-nodes R (s .nodes) (s .rows) (s .count) d es (k .stands) none)
 
-    pub problem-on : (p : Progress) → Keeps R (s .nodes) (s .rows) (s .count) seen C p → countsFault R c ≡ 0
-        → Follows R (s .at) (record { number = 0; state = record { at = s .at; nodes = c .nodes; rows = c .rows; count = 0 } }) seen C (step R p (Problem c))
-    problem-on awaiting k z = rw z (record {
+    pub problem-on : countsFault R c ≡ 0 → AnswersProblem R s c (record { number = 0; state = record { at = s .at; nodes = c .nodes; rows = c .rows; count = 0 } })
+    problem-on z seen C awaiting k = rw z (record {
       number-is = refl;
       at-is = refl;
       keeps = record { stands = record { nodes-are = refl; rows-are = refl; count-is = refl; fine = z }; tracks = k .tracks; rows-are = k .rows-are };
     })
-    problem-on (begun d es) k z = absurd (has-nodes R (s .nodes) (s .rows) (s .count) d es (k .stands) none)
+    problem-on z seen C (begun d es) k = absurd (has-nodes R (s .nodes) (s .rows) (s .count) d es (k .stands) none)
 
 -- ---- the marks
 
@@ -125,10 +132,19 @@ small L n (Arc u v w) q h z =
 small L n (Point v x y) q h z = tt
 small L n (Site v) q h z = tt
 
+-- the entry's node has a bit, and its numbers a place in each column
+pub record Fitting (e : Entry) (place : ℕ) (C : Columns) : Type 0 where
+  pub low : 1 ≤ nodeOf e
+  pub high : nodeOf e ≤ 1024
+  pub small : Small e
+  pub nodes : place < length (C .nodes)
+  pub seconds : place < length (C .seconds)
+  pub thirds : place < length (C .thirds)
+
 module _ (R : Rules) (e : Entry) (s : State) where
-  pub data-early : (seen : List ℕ) (C : Columns) (p : Progress) → Stands R (s .nodes) (s .rows) (s .count) p → s .nodes ≡ 0 → Follows R (s .at) (refusing 3 s) seen C (step R p (Data e))
-  data-early seen C awaiting q h = (refl, λ o. omega arith)
-  data-early seen C (begun d es) q h = absurd (has-nodes R (s .nodes) (s .rows) (s .count) d es q h)
+  pub data-early : s .nodes ≡ 0 → (seen : List ℕ) (C : Columns) → Answers R s seen C (Data e) (s .at) (refusing 3 s) seen C
+  data-early h seen C awaiting k = (refl, λ o. omega arith)
+  data-early h seen C (begun d es) k = absurd (has-nodes R (s .nodes) (s .rows) (s .count) d es (k .stands) h)
 
   -- no fault: room for one more entry, and it passes its tests
   data-fine : dataFault (R .limits) s e ≡ 0 → (s .count < s .rows) × (entryFault (R .limits) (s .nodes) e ≡ 0)
@@ -136,71 +152,71 @@ module _ (R : Rules) (e : Entry) (s : State) where
       let a = else-zero (tooMany (s .rows) (s .count)) (entryFault (R .limits) (s .nodes) e) f in
       (leb-false (s .rows) (s .count) (failed (leb (s .rows) (s .count)) 7 0 (omega arith) (a .0) .0), a .1)
 
-  module _ (h : s .nodes ≡ 0 → ⊥) where
-    pub data-fault : (seen : List ℕ) (C : Columns) (p : Progress) (fault : ℕ) → Stands R (s .nodes) (s .rows) (s .count) p → fault ≡ dataFault (R .limits) s e → (fault ≡ 0 → ⊥)
-        → Follows R (s .at) (refusing fault s) seen C (step R p (Data e))
-    data-fault seen C awaiting fault q f z = absurd (h (q .0))
-    data-fault seen C (begun d es) fault q f z = on (leb (d .rows) (length es)) refl
-      where
-        same : fault ≡ orElse (tooMany (d .rows) (length es)) (entryFault (R .limits) (d .nodes) e)
-        same = rw (← q .rows-are, ← q .count-is, ← q .nodes-are) f
+  pub data-fault : (s .nodes ≡ 0 → ⊥) → (fault : ℕ) → fault ≡ dataFault (R .limits) s e → (fault ≡ 0 → ⊥)
+      → (seen : List ℕ) (C : Columns) → Answers R s seen C (Data e) (s .at) (refusing fault s) seen C
+  data-fault h fault f z seen C awaiting k = absurd (h (k .stands .0))
+  data-fault h fault f z seen C (begun d es) k = on (leb (d .rows) (length es)) refl
+    where
+      same : fault ≡ orElse (tooMany (d .rows) (length es)) (entryFault (R .limits) (d .nodes) e)
+      same = rw (← k .stands .rows-are, ← k .stands .count-is, ← k .stands .nodes-are) f
 
-        on : (b : Bool) → leb (d .rows) (length es) ≡ b → Follows R (s .at) (refusing fault s) seen C (step R (begun d es) (Data e))
-        on true t = rw t (same ∙ rw t (else-first 7 (entryFault (R .limits) (d .nodes) e) (λ o. omega arith)), z)
-        on false t =
-            let g : fault ≡ entryFault (R .limits) (d .nodes) e = same ∙ rw t (else-later 0 (entryFault (R .limits) (d .nodes) e) refl) in
-            rw (t, ← g, ne-eqb fault 0 z) (refl, z)
+      on : (b : Bool) → leb (d .rows) (length es) ≡ b → Follows R (s .at) (refusing fault s) seen C (step R (begun d es) (Data e))
+      on true t = rw t (same ∙ rw t (else-first 7 (entryFault (R .limits) (d .nodes) e) (λ o. omega arith)), z)
+      on false t =
+          let g : fault ≡ entryFault (R .limits) (d .nodes) e = same ∙ rw t (else-later 0 (entryFault (R .limits) (d .nodes) e) refl) in
+          rw (t, ← g, ne-eqb fault 0 z) (refl, z)
 
-    -- an entry without fault, where the marks and the columns have room for it
-    module _ (seen : List ℕ) (C : Columns) (ready : Ready R (s .nodes) (s .rows) seen C) (f : dataFault (R .limits) s e ≡ 0) where
-      pub data-node : NodeFine 1024 (nodeOf e)
-      data-node = let n = node-fine (R .limits) (s .nodes) e (data-fine f .1) in record { low = n .low; high = omega (arith, ready .few) }
+  -- an entry without fault, where the marks and the columns have room for it
+  module _ (seen : List ℕ) (C : Columns) (ready : Ready R (s .nodes) (s .rows) seen C) (f : dataFault (R .limits) s e ≡ 0) where
+    pub data-fits : Fitting e (s .count) C
+    data-fits =
+        let a = data-fine f in
+        let n = node-fine (R .limits) (s .nodes) e (a .1) in
+        record {
+          low = n .low;
+          high = omega (arith, ready .few);
+          small = small (R .limits) (s .nodes) e (ready .limits) (ready .few) (a .1);
+          nodes = omega (arith, ready .room, ready .wide .nodes);
+          seconds = omega (arith, ready .room, ready .wide .seconds);
+          thirds = omega (arith, ready .room, ready .wide .thirds);
+        }
 
-      pub data-small : Small e
-      data-small = small (R .limits) (s .nodes) e (ready .limits) (ready .few) (data-fine f .1)
+    -- what the code asked of the marks
+    module _ (h : s .nodes ≡ 0 → ⊥) (node : ℕ) (node-is : node ≡ nodeOf e) (twice : Bool) (twice-is : twice ≡ onlyOnce e (isMarked seen (node - 1))) where
+      again : (es : List Entry) → Tracks seen es → repeated e es ≡ twice
+      again es tr =
+          repeated-is e es ∙ ap (onlyOnce e) (sym (tracked seen es tr (nodeOf e) (data-fits .low) (omega (arith, data-fits .high, ready .marks))))
+          ∙ ap (λ (v : ℕ). onlyOnce e (isMarked seen (v - 1))) (sym node-is) ∙ sym twice-is
 
-      pub data-room : (s .count < length (C .nodes)) × (s .count < length (C .seconds)) × (s .count < length (C .thirds))
-      data-room =
-          let l = data-fine f .0 in
-          (omega (arith, ready .room, ready .wide .nodes), omega (arith, ready .room, ready .wide .seconds), omega (arith, ready .room, ready .wide .thirds))
+      few : (d : Counts) (es : List Entry) → Counted R (s .nodes) (s .rows) (s .count) d es → leb (d .rows) (length es) ≡ false
+      few d es q = lt-leb (d .rows) (length es) (omega (arith, data-fine f .0, q .rows-are, q .count-is))
 
-      -- what the code asked of the marks
-      module _ (node : ℕ) (node-is : node ≡ nodeOf e) (twice : Bool) (twice-is : twice ≡ onlyOnce e (isMarked seen (node - 1))) where
-        again : (es : List Entry) → Tracks seen es → repeated e es ≡ twice
-        again es tr =
-            repeated-is e es ∙ ap (onlyOnce e) (sym (tracked seen es tr (nodeOf e) (data-node .low) (omega (arith, data-node .high, ready .marks))))
-            ∙ ap (λ (v : ℕ). onlyOnce e (isMarked seen (v - 1))) (sym node-is) ∙ sym twice-is
+      fine : (d : Counts) (es : List Entry) → Counted R (s .nodes) (s .rows) (s .count) d es → entryFault (R .limits) (d .nodes) e ≡ 0
+      fine d es q = rw (← q .nodes-are) (data-fine f .1)
 
-        few : (d : Counts) (es : List Entry) → Counted R (s .nodes) (s .rows) (s .count) d es → leb (d .rows) (length es) ≡ false
-        few d es q = lt-leb (d .rows) (length es) (omega (arith, data-fine f .0, q .rows-are, q .count-is))
+      pub data-twice : twice ≡ true → Answers R s seen C (Data e) (s .at) (refusing 8 s) seen C
+      data-twice t awaiting k = absurd (h (k .stands .0))
+      data-twice t (begun d es) k = rw (few d es (k .stands), fine d es (k .stands), again es (k .tracks) ∙ t) (refl, λ o. omega arith)
 
-        fine : (d : Counts) (es : List Entry) → Counted R (s .nodes) (s .rows) (s .count) d es → entryFault (R .limits) (d .nodes) e ≡ 0
-        fine d es q = rw (← q .nodes-are) (data-fine f .1)
-
-        pub data-twice : (p : Progress) → Keeps R (s .nodes) (s .rows) (s .count) seen C p → twice ≡ true → Follows R (s .at) (refusing 8 s) seen C (step R p (Data e))
-        data-twice awaiting k t = absurd (h (k .stands .0))
-        data-twice (begun d es) k t = rw (few d es (k .stands), fine d es (k .stands), again es (k .tracks) ∙ t) (refl, λ o. omega arith)
-
-        pub data-on : (seen′ : List ℕ) (second third : ℤ) (p : Progress) → Keeps R (s .nodes) (s .rows) (s .count) seen C p → twice ≡ false → Added seen (node - 1) seen′
-            → second ≡ secondOf e → third ≡ thirdOf e
-            → Follows R (s .at) (record { number = 0; state = record { at = s .at; nodes = s .nodes; rows = s .rows; count = s .count + 1 } }) seen′
-            (columns (set (C .nodes) (s .count) node) (set (C .seconds) (s .count) second) (set (C .thirds) (s .count) third)) (step R p (Data e))
-        data-on seen′ second third awaiting k t a b c = absurd (h (k .stands .0))
-        data-on seen′ second third (begun d es) k t a b c =
-            rw (few d es (k .stands), fine d es (k .stands), again es (k .tracks) ∙ t) (record {
-              number-is = refl;
-              at-is = refl;
-              keeps = record {
-                stands = record {
-                  nodes-are = k .stands .nodes-are;
-                  rows-are = k .stands .rows-are;
-                  count-is = ap (λ (n : ℕ). n + 1) (k .stands .count-is) ∙ sym (length-append es (e ∷ []));
-                  fine = k .stands .fine;
-                };
-                tracks = track-on seen es (k .tracks) seen′ e (data-node .low) (subst (λ (v : ℕ). Added seen (v - 1) seen′) node-is a);
-                rows-are = rows-on C es e (s .count) node second third (k .rows-are) (k .stands .count-is) node-is b c (data-room .0) (data-room .1) (data-room .2);
+      pub data-on : twice ≡ false → (seen′ : List ℕ) → Added seen (node - 1) seen′ → (second third : ℤ) → second ≡ secondOf e → third ≡ thirdOf e
+          → Answers R s seen C (Data e) (s .at) (record { number = 0; state = record { at = s .at; nodes = s .nodes; rows = s .rows; count = s .count + 1 } })
+          seen′ (columns (set (C .nodes) (s .count) node) (set (C .seconds) (s .count) second) (set (C .thirds) (s .count) third))
+      data-on t seen′ a second third b c awaiting k = absurd (h (k .stands .0))
+      data-on t seen′ a second third b c (begun d es) k =
+          rw (few d es (k .stands), fine d es (k .stands), again es (k .tracks) ∙ t) (record {
+            number-is = refl;
+            at-is = refl;
+            keeps = record {
+              stands = record {
+                nodes-are = k .stands .nodes-are;
+                rows-are = k .stands .rows-are;
+                count-is = ap (λ (n : ℕ). n + 1) (k .stands .count-is) ∙ sym (length-append es (e ∷ []));
+                fine = k .stands .fine;
               };
-            })
+              tracks = track-on seen es (k .tracks) seen′ e (data-fits .low) (subst (λ (v : ℕ). Added seen (v - 1) seen′) node-is a);
+              rows-are = rows-on C es e (s .count) node second third (k .rows-are) (k .stands .count-is) node-is b c (data-fits .nodes) (data-fits .seconds) (data-fits .thirds);
+            };
+          })
 
 -- ---- the end
 

@@ -1,115 +1,159 @@
+use Rattle.reading.specs.Follows.{onlyOnce}
+use Rattle.reading.specs.Rows.{columns}
+use Rattle.reading.proofs.Sizes.{held}
+use Rattle.reading.proofs.Steps.{data-early, data-fault, data-fits, data-twice, data-on}
 use borrow.Author.Needs.{needs}
+use native.Mathlib.Omega.{arith}
+use mathlib.Core.Path.{ap, sym, _∙_}
 use Rattle.reading.proofs.added.Statement.{statement}
 use Rattle.reading.proofs.added.Tie as tie
-use Rattle.reading.proofs.added.Reads as reads
-use Rattle.reading.proofs.added.Lts as lts
-use Rattle.reading.proofs.data_fault.Reads as data-fault-reads
-use Rattle.reading.proofs.marks.mark.Reads as mark-reads
-use Rattle.reading.proofs.marks.marked.Reads as marked-reads
-use Rattle.reading.proofs.node_of.Reads as node-of-reads
-use Rattle.reading.proofs.only_once.Reads as only-once-reads
-use Rattle.reading.proofs.second_of.Reads as second-of-reads
-use Rattle.reading.proofs.third_of.Reads as third-of-reads
 
--- src/lib.rt:274:9
 returns : tie.Need-returns
-returns c = ?
+returns c =
+    let start = c .before .before .before .before in
+    data-early (start .args .rules) (start .args .e) (start .args .st) (c .if1 .taken) (start .args .seen .now) (columns (start .args .nodes .now) (start .args .seconds .now) (start .args .thirds .now))
 
--- src/lib.rt:280:9
 data-fault-requires : tie.Need-data-fault-requires
 data-fault-requires c κs = search needs
 
--- src/lib.rt:282:9
 returns-2 : tie.Need-returns-2
-returns-2 c = ?
+returns-2 c =
+    let if1 = c .before .before .before in
+    let start = if1 .before .before .before .before in
+    data-fault (start .args .rules) (start .args .e) (start .args .st) (if1 .if1 .left) (c .before .data-fault .result) (c .before .data-fault .ensures) (c .if2 .taken) (start .args .seen .now) (columns (start .args .nodes .now) (start .args .seconds .now) (start .args .thirds .now))
 
--- src/lib.rt:284:9
 node-of-requires : tie.Need-node-of-requires
 node-of-requires c κs = search needs
 
--- src/lib.rt:285:13
 sub-k : tie.Need-sub-k
-sub-k c = ?
+sub-k c =
+    let if2 = c .before in
+    let start = if2 .before .before .before .before .before .before .before in
+    let fit = data-fits (start .args .rules) (start .args .e) (start .args .st) _ _ (start .pre) (sym (if2 .before .data-fault .ensures) ∙ if2 .if2 .left) in
+    omega (arith, fit .low, c .node-of .ensures)
 
--- src/lib.rt:286:21
 marked-requires : tie.Need-marked-requires
-marked-requires c κs = ?
+marked-requires c κs =
+    let if2 = c .before .before in
+    let start = if2 .before .before .before .before .before .before .before in
+    let fit = data-fits (start .args .rules) (start .args .e) (start .args .st) _ _ (start .pre) (sym (if2 .before .data-fault .ensures) ∙ if2 .if2 .left) in
+    omega (arith, fit .low, fit .high, c .before .node-of .ensures, start .pre .marks)
 
--- src/lib.rt:286:8
 only-once-requires : tie.Need-only-once-requires
 only-once-requires c κs = search needs
 
--- src/lib.rt:287:9
 same-length : tie.Need-same-length
 same-length c = search needs
 
--- src/lib.rt:287:9
 returns-3 : tie.Need-returns-3
-returns-3 c = ?
+returns-3 c =
+    let marked = c .before .before in
+    let node-of = marked .before .before in
+    let if2 = node-of .before in
+    let if1 = if2 .before .before .before in
+    let start = if1 .before .before .before .before in
+    data-twice (start .args .rules) (start .args .e) (start .args .st) _ _ (start .pre) (sym (if2 .before .data-fault .ensures) ∙ if2 .if2 .left) (if1 .if1 .left) (node-of .node-of .result) (node-of .node-of .ensures) (c .before .only-once .result) (c .before .only-once .ensures ∙ ap (onlyOnce (start .args .e)) (marked .marked .ensures)) (c .if3 .taken)
 
--- src/lib.rt:292:5
 mark-requires : tie.Need-mark-requires
-mark-requires c κs = ?
+mark-requires c κs =
+    let if2 = c .before .before .before .before .before .before in
+    let start = if2 .before .before .before .before .before .before .before in
+    let fit = data-fits (start .args .rules) (start .args .e) (start .args .st) _ _ (start .pre) (sym (if2 .before .data-fault .ensures) ∙ if2 .if2 .left) in
+    omega (arith, fit .low, fit .high, c .before .before .before .before .before .node-of .ensures, start .pre .marks)
 
--- src/lib.rt:294:16
 cast-nodes : tie.Need-cast-nodes
-cast-nodes c = ?
+cast-nodes c =
+    let if2 = c .before .before .before .before .before .before .before .before .before in
+    let start = if2 .before .before .before .before .before .before .before in
+    let fit = data-fits (start .args .rules) (start .args .e) (start .args .st) _ _ (start .pre) (sym (if2 .before .data-fault .ensures) ∙ if2 .if2 .left) in
+    record { fits = omega (arith, fit .high, c .before .before .before .before .before .before .before .before .node-of .ensures) }
 
--- src/lib.rt:294:5
 mul-nodes : tie.Need-mul-nodes
-mul-nodes c = ?
+mul-nodes c =
+    let if2 = c .before .before .before .before .before .before .before .before .before in
+    let start = if2 .before .before .before .before .before .before .before in
+    let fit = data-fits (start .args .rules) (start .args .e) (start .args .st) _ _ (start .pre) (sym (if2 .before .data-fault .ensures) ∙ if2 .if2 .left) in
+    let l = fit .nodes in search needs
 
--- src/lib.rt:294:5
 slice-write-nodes : tie.Need-slice-write-nodes
-slice-write-nodes c = ?
+slice-write-nodes c =
+    let if2 = c .before .before .before .before .before .before .before .before .before in
+    let start = if2 .before .before .before .before .before .before .before in
+    let fit = data-fits (start .args .rules) (start .args .e) (start .args .st) _ _ (start .pre) (sym (if2 .before .data-fault .ensures) ∙ if2 .if2 .left) in
+    fit .nodes
 
--- src/lib.rt:295:18
 second-of-requires : tie.Need-second-of-requires
-second-of-requires c κs = ?
+second-of-requires c κs =
+    let if2 = c .before .before .before .before .before .before .before .before .before in
+    let start = if2 .before .before .before .before .before .before .before in
+    let fit = data-fits (start .args .rules) (start .args .e) (start .args .st) _ _ (start .pre) (sym (if2 .before .data-fault .ensures) ∙ if2 .if2 .left) in
+    fit .small
 
--- src/lib.rt:295:5
 mul-thirds : tie.Need-mul-thirds
-mul-thirds c = ?
+mul-thirds c =
+    let if2 = c .before .before .before .before .before .before .before .before .before .before in
+    let start = if2 .before .before .before .before .before .before .before in
+    let fit = data-fits (start .args .rules) (start .args .e) (start .args .st) _ _ (start .pre) (sym (if2 .before .data-fault .ensures) ∙ if2 .if2 .left) in
+    let l = fit .seconds in search needs
 
--- src/lib.rt:295:5
 slice-set-from-thirds : tie.Need-slice-set-from-thirds
-slice-set-from-thirds c = ?
+slice-set-from-thirds c =
+    let if2 = c .before .before .before .before .before .before .before .before .before .before in
+    let start = if2 .before .before .before .before .before .before .before in
+    let fit = data-fits (start .args .rules) (start .args .e) (start .args .st) _ _ (start .pre) (sym (if2 .before .data-fault .ensures) ∙ if2 .if2 .left) in
+    fit .seconds
 
--- src/lib.rt:296:17
 third-of-requires : tie.Need-third-of-requires
-third-of-requires c κs = ?
+third-of-requires c κs =
+    let if2 = c .before .before .before .before .before .before .before .before .before .before in
+    let start = if2 .before .before .before .before .before .before .before in
+    let fit = data-fits (start .args .rules) (start .args .e) (start .args .st) _ _ (start .pre) (sym (if2 .before .data-fault .ensures) ∙ if2 .if2 .left) in
+    fit .small
 
--- src/lib.rt:296:5
 mul-t21 : tie.Need-mul-t21
-mul-t21 c = ?
+mul-t21 c =
+    let if2 = c .before .before .before .before .before .before .before .before .before .before .before in
+    let start = if2 .before .before .before .before .before .before .before in
+    let fit = data-fits (start .args .rules) (start .args .e) (start .args .st) _ _ (start .pre) (sym (if2 .before .data-fault .ensures) ∙ if2 .if2 .left) in
+    let l = fit .thirds in search needs
 
--- src/lib.rt:296:5
 slice-set-from-thirds-2 : tie.Need-slice-set-from-thirds-2
-slice-set-from-thirds-2 c = ?
+slice-set-from-thirds-2 c =
+    let if2 = c .before .before .before .before .before .before .before .before .before .before .before in
+    let start = if2 .before .before .before .before .before .before .before in
+    let fit = data-fits (start .args .rules) (start .args .e) (start .args .st) _ _ (start .pre) (sym (if2 .before .data-fault .ensures) ∙ if2 .if2 .left) in
+    fit .thirds
 
--- src/lib.rt:303:20
 add-t21 : tie.Need-add-t21
-add-t21 c = ?
+add-t21 c =
+    let if2 = c .before .before .before .before .before .before .before .before .before .before .before in
+    let start = if2 .before .before .before .before .before .before .before in
+    let fit = data-fits (start .args .rules) (start .args .e) (start .args .st) _ _ (start .pre) (sym (if2 .before .data-fault .ensures) ∙ if2 .if2 .left) in
+    let l = fit .thirds in search needs
 
--- src/lib.rt:261:1
 same-length-2 : tie.Need-same-length-2
 same-length-2 c = search needs
 
--- src/lib.rt:261:1
 same-length-3 : tie.Need-same-length-3
 same-length-3 c = search needs
 
--- src/lib.rt:261:1
 same-length-4 : tie.Need-same-length-4
 same-length-4 c = search needs
 
--- src/lib.rt:261:1
 same-length-5 : tie.Need-same-length-5
 same-length-5 c = search needs
 
--- src/lib.rt:261:1
 returns-4 : tie.Need-returns-4
-returns-4 c = ?
+returns-4 c =
+    let mark = c .before .before .before .before in
+    let if3 = mark .before .before in
+    let only-once = if3 .before in
+    let marked = only-once .before in
+    let node-of = marked .before .before in
+    let if2 = node-of .before in
+    let if1 = if2 .before .before .before in
+    let start = if1 .before .before .before .before in
+    data-on (start .args .rules) (start .args .e) (start .args .st) _ _ (start .pre) (sym (if2 .before .data-fault .ensures) ∙ if2 .if2 .left) (if1 .if1 .left) (node-of .node-of .result) (node-of .node-of .ensures) (only-once .only-once .result) (only-once .only-once .ensures ∙ ap (onlyOnce (start .args .e)) (marked .marked .ensures)) (if3 .if3 .left) _ (mark .mark .ensures) _ _ (held _ (record { sfits = c .before .second-of .ok }) ∙ c .before .second-of .ensures) (held _ (record { sfits = c .third-of .ok }) ∙ c .third-of .ensures)
 
 pub added-spec : {M : Type 1} → statement M
 added-spec =
