@@ -102,17 +102,20 @@ module _ (K : Kind) (g : ℕ) (text : List ℕ) (at : ℕ) (h : at < length text
 
 -- ---- the code's answer to the line at a position
 
--- a line that was read in one go
-pub says-said : (K : Kind) (g : ℕ) (text : List ℕ) (at next : ℕ) (e : Entry) → Says K text at e next → record { line = Data e; next = next } ≡ saidAt K g text at
-says-said K g text at next e s = rw (lt-ltb at (length text) (s .some), s .line g, ← s .next-is)
-
-module _ (R : Rules) (text : List ℕ) (s : State) (said : Said) (said-is : said ≡ saidAt (R .kind) (R .given) text (s .at)) (moved : State) (moved-is : moved ≡ movedTo s (said .next)) where
+module _ (R : Rules) (s moved : State) (next : ℕ) (moved-is : moved ≡ movedTo s next) where
   pub moved-ready : (seen : List ℕ) (C : Columns) → Ready R (s .nodes) (s .rows) seen C → Ready R (moved .nodes) (moved .rows) seen C
   moved-ready seen C h = rw moved-is h
 
-  pub moved-answers : (seen : List ℕ) (C : Columns) (r : Step) (seen′ : List ℕ) (C′ : Columns)
-      → Answers R moved seen C (said .line) (moved .at) r seen′ C′ → AnswersNext R text s seen C r seen′ C′
-  moved-answers seen C r seen′ C′ h = rw (← said-is) (rw moved-is at h)
+  pub moved-answers : (line : Line) (text : List ℕ) → record { line = line; next = next } ≡ saidAt (R .kind) (R .given) text (s .at)
+      → (seen : List ℕ) (C : Columns) (r : Step) (seen′ : List ℕ) (C′ : Columns)
+      → Answers R moved seen C line (moved .at) r seen′ C′ → AnswersNext R text s seen C r seen′ C′
+  moved-answers line text e seen C r seen′ C′ h = rw (← e) (rw moved-is at h)
+
+  -- a line that was read in one go
+  pub plain-answers : (kind : Kind) (e : Entry) (text : List ℕ) → R .kind ≡ kind → Says kind text (s .at) e next
+      → (seen : List ℕ) (C : Columns) (r : Step) (seen′ : List ℕ) (C′ : Columns)
+      → Answers R moved seen C (Data e) (moved .at) r seen′ C′ → AnswersNext R text s seen C r seen′ C′
+  plain-answers kind e text k says = moved-answers (Data e) text (rw (k, lt-ltb (s .at) (length text) (says .some), says .line (R .given), ← says .next-is))
 
 -- ---- before the lines
 

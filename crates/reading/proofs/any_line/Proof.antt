@@ -1,42 +1,38 @@
+use Rattle.reading.proofs.Lines.{moved-ready, moved-answers}
+use borrow.Author.Needs.{needs}
 use Rattle.reading.proofs.any_line.Statement.{statement}
 use Rattle.reading.proofs.any_line.Tie as tie
-use Rattle.reading.proofs.any_line.Reads as reads
-use Rattle.reading.proofs.any_line.Lts as lts
-use Rattle.reading.proofs.advanced.Reads as advanced-reads
-use Rattle.reading.proofs.moved.Reads as moved-reads
-use Rattle.reading.proofs.said_at.Reads as said-at-reads
 
--- src/lib.rt:401:9
 said-at-requires : tie.Need-said-at-requires
-said-at-requires c κs = ?
+said-at-requires c κs = search needs
 
--- src/lib.rt:405:9
 moved-requires : tie.Need-moved-requires
-moved-requires c κs = ?
+moved-requires c κs = search needs
 
--- src/lib.rt:403:5
 advanced-requires : tie.Need-advanced-requires
-advanced-requires c κs = ?
+advanced-requires c κs =
+    let moved = c .before .before .before .before in
+    let start = moved .before .before .before .before .before in
+    moved-ready (start .args .rules) (start .args .st) (moved .moved .result) (moved .before .said-at .result .next) (moved .moved .ensures) _ _ (start .pre)
 
--- src/lib.rt:387:1
 same-length : tie.Need-same-length
-same-length c = ?
+same-length c = search needs
 
--- src/lib.rt:387:1
 same-length-2 : tie.Need-same-length-2
-same-length-2 c = ?
+same-length-2 c = search needs
 
--- src/lib.rt:387:1
 same-length-3 : tie.Need-same-length-3
-same-length-3 c = ?
+same-length-3 c = search needs
 
--- src/lib.rt:387:1
 same-length-4 : tie.Need-same-length-4
-same-length-4 c = ?
+same-length-4 c = search needs
 
--- src/lib.rt:387:1
 returns : tie.Need-returns
-returns c = ?
+returns c =
+    let advanced = c .before .before .before .before .before .before in
+    let moved = advanced .before .before .before .before .before in
+    let start = moved .before .before .before .before .before in
+    moved-answers (start .args .rules) (start .args .st) (moved .moved .result) (moved .before .said-at .result .next) (moved .moved .ensures) (moved .before .said-at .result .line) (start .args .text .now) (moved .before .said-at .ensures) (start .args .seen .now) _ _ (advanced .advanced .last .1 .1 .0) _ (advanced .advanced .ensures)
 
 pub any-line-spec : {M : Type 1} → statement M
 any-line-spec =

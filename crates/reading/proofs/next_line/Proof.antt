@@ -1,94 +1,69 @@
+use borrow.Author.Needs.{needs}
 use Rattle.reading.proofs.next_line.Statement.{statement}
 use Rattle.reading.proofs.next_line.Tie as tie
-use Rattle.reading.proofs.next_line.Reads as reads
-use Rattle.reading.proofs.next_line.Lts as lts
-use Rattle.reading.proofs.arc_line.Reads as arc-line-reads
-use Rattle.reading.proofs.point_line.Reads as point-line-reads
-use Rattle.reading.proofs.site_line.Reads as site-line-reads
 
--- src/lib.rt:507:50
 enum-told : tie.Need-enum-told
-enum-told c = ?
+enum-told c = search needs
 
--- src/lib.rt:507:24
 arc-line-requires : tie.Need-arc-line-requires
-arc-line-requires c κs = ?
+arc-line-requires c κs = search needs
 
--- src/lib.rt:508:58
 enum-told-2 : tie.Need-enum-told-2
-enum-told-2 c = ?
+enum-told-2 c = search needs
 
--- src/lib.rt:508:30
 point-line-requires : tie.Need-point-line-requires
-point-line-requires c κs = ?
+point-line-requires c κs = search needs
 
--- src/lib.rt:509:51
 enum-told-3 : tie.Need-enum-told-3
-enum-told-3 c = ?
+enum-told-3 c = search needs
 
--- src/lib.rt:509:24
 site-line-requires : tie.Need-site-line-requires
-site-line-requires c κs = ?
+site-line-requires c κs = search needs
 
--- src/lib.rt:492:1
 same-length : tie.Need-same-length
-same-length c = ?
+same-length c = search needs
 
--- src/lib.rt:492:1
 same-length-2 : tie.Need-same-length-2
-same-length-2 c = ?
+same-length-2 c = search needs
 
--- src/lib.rt:492:1
 same-length-3 : tie.Need-same-length-3
-same-length-3 c = ?
+same-length-3 c = search needs
 
--- src/lib.rt:492:1
 same-length-4 : tie.Need-same-length-4
-same-length-4 c = ?
+same-length-4 c = search needs
 
--- src/lib.rt:492:1
 returns : tie.Need-returns
-returns c = ?
+returns c = c .before .before .before .before .before .before .arc-line .ensures
 
--- src/lib.rt:492:1
 same-length-5 : tie.Need-same-length-5
-same-length-5 c = ?
+same-length-5 c = search needs
 
--- src/lib.rt:492:1
 same-length-6 : tie.Need-same-length-6
-same-length-6 c = ?
+same-length-6 c = search needs
 
--- src/lib.rt:492:1
 same-length-7 : tie.Need-same-length-7
-same-length-7 c = ?
+same-length-7 c = search needs
 
--- src/lib.rt:492:1
 same-length-8 : tie.Need-same-length-8
-same-length-8 c = ?
+same-length-8 c = search needs
 
--- src/lib.rt:492:1
 returns-2 : tie.Need-returns-2
-returns-2 c = ?
+returns-2 c = c .before .before .before .before .before .before .point-line .ensures
 
--- src/lib.rt:492:1
 same-length-9 : tie.Need-same-length-9
-same-length-9 c = ?
+same-length-9 c = search needs
 
--- src/lib.rt:492:1
 same-length-10 : tie.Need-same-length-10
-same-length-10 c = ?
+same-length-10 c = search needs
 
--- src/lib.rt:492:1
 same-length-11 : tie.Need-same-length-11
-same-length-11 c = ?
+same-length-11 c = search needs
 
--- src/lib.rt:492:1
 same-length-12 : tie.Need-same-length-12
-same-length-12 c = ?
+same-length-12 c = search needs
 
--- src/lib.rt:492:1
 returns-3 : tie.Need-returns-3
-returns-3 c = ?
+returns-3 c = c .before .before .before .before .before .before .site-line .ensures
 
 pub next-line-spec : {M : Type 1} → statement M
 next-line-spec =

@@ -1,67 +1,64 @@
+use Rattle.meaning.specs.declared.Entry.the-variants.{Point}
+use Rattle.reading.proofs.Sizes.{held-point}
+use Rattle.meaning.specs.declared.Kind.the-variants.{Coordinates}
+use Rattle.reading.proofs.Lines.{moved-ready, plain-answers}
+use borrow.Author.Needs.{needs}
 use Rattle.reading.proofs.point_line.Statement.{statement}
 use Rattle.reading.proofs.point_line.Tie as tie
-use Rattle.reading.proofs.point_line.Reads as reads
-use Rattle.reading.proofs.point_line.Lts as lts
-use Rattle.grammar.proofs.point_at.Reads as point-at-reads
-use Rattle.reading.proofs.added.Reads as added-reads
-use Rattle.reading.proofs.any_line.Reads as any-line-reads
-use Rattle.reading.proofs.moved.Reads as moved-reads
 
--- src/lib.rt:456:9
 point-at-requires : tie.Need-point-at-requires
-point-at-requires c κs = ?
+point-at-requires c κs = search needs
 
--- src/lib.rt:458:9
 any-line-requires : tie.Need-any-line-requires
-any-line-requires c κs = ?
+any-line-requires c κs = search needs
 
--- src/lib.rt:458:9
 same-length : tie.Need-same-length
-same-length c = ?
+same-length c = search needs
 
--- src/lib.rt:458:9
 same-length-2 : tie.Need-same-length-2
-same-length-2 c = ?
+same-length-2 c = search needs
 
--- src/lib.rt:458:9
 same-length-3 : tie.Need-same-length-3
-same-length-3 c = ?
+same-length-3 c = search needs
 
--- src/lib.rt:458:9
 same-length-4 : tie.Need-same-length-4
-same-length-4 c = ?
+same-length-4 c = search needs
 
--- src/lib.rt:458:9
 returns : tie.Need-returns
-returns c = ?
+returns c = c .before .before .before .before .before .before .any-line .ensures
 
--- src/lib.rt:465:18
 moved-requires : tie.Need-moved-requires
-moved-requires c κs = ?
+moved-requires c κs = search needs
 
--- src/lib.rt:465:5
 added-requires : tie.Need-added-requires
-added-requires c κs = ?
+added-requires c κs =
+    let moved = c .before .before .before .before in
+    let start = moved .before .before .before .before .before .before .before .before in
+    moved-ready (start .args .rules) (start .args .st) (moved .moved .result) _ (moved .moved .ensures) _ _ (start .pre .1 .1)
 
--- src/lib.rt:442:1
 same-length-5 : tie.Need-same-length-5
-same-length-5 c = ?
+same-length-5 c = search needs
 
--- src/lib.rt:442:1
 same-length-6 : tie.Need-same-length-6
-same-length-6 c = ?
+same-length-6 c = search needs
 
--- src/lib.rt:442:1
 same-length-7 : tie.Need-same-length-7
-same-length-7 c = ?
+same-length-7 c = search needs
 
--- src/lib.rt:442:1
 same-length-8 : tie.Need-same-length-8
-same-length-8 c = ?
+same-length-8 c = search needs
 
--- src/lib.rt:442:1
 returns-2 : tie.Need-returns-2
-returns-2 c = ?
+returns-2 c =
+    let added = c .before .before .before .before .before .before in
+    let moved = added .before .before .before .before .before in
+    let if1 = moved .before .before in
+    let row = if1 .before .before in
+    let start = row .before .before .before .before in
+    let told = moved .before .struct-told .given in
+    let p = row .point-at .result in
+    let held = held-point (p .node) (p .x) (p .y) (record { sfits = told .1 .0 .1 }) (record { sfits = told .1 .1 .0 .1 }) in
+    plain-answers (start .args .rules) (start .args .st) (moved .moved .result) (p .next) (moved .moved .ensures) Coordinates (Point (p .node) (p .x) (p .y)) (start .args .text .now) (start .pre .1 .0) (row .point-at .ensures (if1 .if1 .left)) (start .args .seen .now) _ _ (added .added .last .1 .1 .0) _ (rw held at (added .added .ensures))
 
 pub point-line-spec : {M : Type 1} → statement M
 point-line-spec =
