@@ -5,7 +5,7 @@ use mathlib.Core.List.{List, _∷_}
 use mathlib.Core.Bool.{Bool, true, false, cond}
 use lib.ListN.{length, take, drop, getD, replicate, length-drop, drop-of-length-le}
 use lib.Seq.{drop-drop}
-use lib.Dec.{ltb}
+use lib.Dec.{ltb, eqb}
 use native.Mathlib.Nat.{zero-div}
 use native.Mathlib.Numerals.{add-one}
 use native.Mathlib.Omega.{arith}
@@ -13,12 +13,13 @@ use borrow.Author.Tests.{lt-ltb, ltb-true, ltb-false, le-leb, lt-leb}
 use Rattle.meaning.specs.Text.{lines, trim, fields}
 use Rattle.meaning.specs.Grammar.{lineOf}
 use Rattle.meaning.specs.Limits.{base}
-use Rattle.meaning.specs.Files.{Progress, awaiting, Next, stop, go, step, onNext, readFrom, finish, handedIn, reading, answered}
+use Rattle.meaning.specs.Files.{Progress, awaiting, begun, Next, stop, go, step, onNext, Reading, refused, read, readFrom, finish, handedIn, reading, answered}
 use Rattle.meaning.specs.declared.Limits.{Limits}
 use Rattle.meaning.specs.declared.Read.{Read}
 use Rattle.meaning.specs.declared.Kind.{Kind}
 use Rattle.meaning.specs.declared.Line.{Line}
 use Rattle.meaning.specs.declared.Line.the-variants.{Data}
+use Rattle.meaning.specs.declared.Counts.{Counts}
 use Rattle.meaning.specs.declared.Entry.{Entry}
 use Rattle.meaning.specs.declared.Read.the-variants.{Refused}
 use Rattle.meaning.specs.declared.Rules.{Rules}
@@ -103,32 +104,136 @@ module _ (K : Kind) (g : ℕ) (text : List ℕ) (at : ℕ) (h : at < length text
 -- ---- the code's answer to the line at a position
 
 module _ (R : Rules) (s moved : State) (next : ℕ) (moved-is : moved ≡ movedTo s next) where
-  pub moved-ready : (seen : List ℕ) (C : Columns) → Ready R (s .nodes) (s .rows) seen C → Ready R (moved .nodes) (moved .rows) seen C
-  moved-ready seen C h = rw moved-is h
+  pub moved-ready : {seen : List ℕ} {C : Columns} → Ready R (s .nodes) (s .rows) seen C → Ready R (moved .nodes) (moved .rows) seen C
+  moved-ready h = rw moved-is h
 
   pub moved-answers : (line : Line) (text : List ℕ) → record { line = line; next = next } ≡ saidAt (R .kind) (R .given) text (s .at)
-      → (seen : List ℕ) (C : Columns) (r : Step) (seen′ : List ℕ) (C′ : Columns)
+      → {seen : List ℕ} {C : Columns} (r : Step) (seen′ : List ℕ) (C′ : Columns)
       → Answers R moved seen C line (moved .at) r seen′ C′ → AnswersNext R text s seen C r seen′ C′
-  moved-answers line text e seen C r seen′ C′ h = rw (← e) (rw moved-is at h)
+  moved-answers line text e r seen′ C′ h = rw (← e) (rw moved-is at h)
 
   -- a line that was read in one go
   pub plain-answers : (kind : Kind) (e : Entry) (text : List ℕ) → R .kind ≡ kind → Says kind text (s .at) e next
-      → (seen : List ℕ) (C : Columns) (r : Step) (seen′ : List ℕ) (C′ : Columns)
+      → {seen : List ℕ} {C : Columns} (r : Step) (seen′ : List ℕ) (C′ : Columns)
       → Answers R moved seen C (Data e) (moved .at) r seen′ C′ → AnswersNext R text s seen C r seen′ C′
   plain-answers kind e text k says = moved-answers (Data e) text (rw (k, lt-ltb (s .at) (length text) (says .some), says .line (R .given), ← says .next-is))
 
+-- ---- the judging loop: what is left to read gives the whole reading
+
+pub record SameLengths (C₀ C : Columns) : Type 0 where
+  pub nodes : length (C .nodes) ≡ length (C₀ .nodes)
+  pub seconds : length (C .seconds) ≡ length (C₀ .seconds)
+  pub thirds : length (C .thirds) ≡ length (C₀ .thirds)
+
+pub record Judged (R : Rules) (text : List ℕ) (C₀ : Columns) (seen : List ℕ) (C : Columns) (st : State) (place : ℕ) : Type 0 where
+  pub progress : Progress
+  pub keeps : Keeps R (st .nodes) (st .rows) (st .count) seen C progress
+  pub size : length seen ≡ 32
+  pub lengths : SameLengths C₀ C
+  pub low : place ≤ st .at
+  pub high : st .at ≤ length text + 1
+  pub same : readFrom R (lines text) awaiting 0 ≡ readFrom R (lines (drop (st .at) text)) progress place
+
+blank-word : (n i : ℕ) → _≡_ {A = ℕ} (getD (replicate n zero) i zero) zero
+blank-word zero i = refl
+blank-word (suc n) zero = refl
+blank-word (suc n) (suc i) = blank-word n i
+
+pub judged-start : (R : Rules) (text : List ℕ) (C : Columns) → Judged R text C (replicate 32 0) C (record { at = 0; nodes = 0; rows = 0; count = 0 }) 0
+judged-start R text C = record {
+  progress = awaiting;
+  keeps = record { stands = (refl, refl); tracks = λ k h. rw (blank-word 32 (k / 32), zero-div (2 ^ (k % 32))); rows-are = record { nodes = refl; seconds = refl; thirds = refl } };
+  size = refl;
+  lengths = record { nodes = refl; seconds = refl; thirds = refl };
+  low = omega arith;
+  high = omega arith;
+  same = refl;
+}
+
+module _ (R : Rules) (text : List ℕ) (C₀ : Columns) (seen : List ℕ) (C : Columns) (st : State) (place : ℕ) (j : Judged R text C₀ seen C st place) where
+  pub judged-ready : R .limits ≡ base → Wide (R .kind) C₀ → Ready R (st .nodes) (st .rows) seen C
+  judged-ready b w =
+      let stands = j .keeps .stands in
+      record {
+        limits = b;
+        few = rw b at (stands-few R (st .nodes) (st .rows) (st .count) (j .progress) stands);
+        room = rw b at (stands-room R (st .nodes) (st .rows) (st .count) (j .progress) stands);
+        marks = j .size;
+        wide = record {
+          nodes = omega (arith, w .nodes, j .lengths .nodes);
+          seconds = omega (arith, w .seconds, j .lengths .seconds);
+          thirds = omega (arith, w .thirds, j .lengths .thirds);
+        };
+      }
+
+  -- the next line, and the code's answer to it
+  module _ (h : st .at < length text) (r : Step) (seen′ : List ℕ) (C′ : Columns) (answers : AnswersNext R text st seen C r seen′ C′) where
+    abbrev said : Said
+    said = saidAt (R .kind) (R .given) text (st .at)
+
+    here : readFrom R (lines text) awaiting 0 ≡ onNext (step R (j .progress) (said .line)) (suc place) (λ p. readFrom R (lines (drop (said .next) text)) p (suc place))
+    here =
+        j .same ∙ ap (λ (ls : List (List ℕ)). readFrom R ls (j .progress) place) (lines-at (R .kind) (R .given) text (st .at) h)
+        ∙ ap (λ (l : Line). onNext (step R (j .progress) l) (suc place) (λ p. readFrom R (lines (drop (said .next) text)) p (suc place)))
+        (sym (line-is (R .kind) (R .given) text (st .at) h))
+
+    pub judged-stop : (r .number ≡ 0 → ⊥) → readFrom R (lines text) awaiting 0 ≡ refused (r .number) (place + 1)
+    judged-stop z = here ∙ by (step R (j .progress) (said .line)) (answers (j .progress) (j .keeps))
+      where
+        by : (x : Next) → Follows R (said .next) r seen′ C′ x → onNext x (suc place) (λ p. readFrom R (lines (drop (said .next) text)) p (suc place)) ≡ refused (r .number) (place + 1)
+        by (stop number) f = ap (λ (n : ℕ). refused n (suc place)) (sym (f .0)) ∙ ap (refused (r .number)) (sym (add-one place))
+        by (go p) f = absurd (z (f .number-is))
+
+    pub judged-on : r .number ≡ 0 → length seen′ ≡ 32 → SameLengths C₀ C′ → Judged R text C₀ seen′ C′ (r .state) (place + 1) × (st .at < r .state .at)
+    judged-on z l m = by (step R (j .progress) (said .line)) refl (answers (j .progress) (j .keeps))
+      where
+        by : (x : Next) → step R (j .progress) (said .line) ≡ x → Follows R (said .next) r seen′ C′ x → Judged R text C₀ seen′ C′ (r .state) (place + 1) × (st .at < r .state .at)
+        by (stop number) e f = absurd (f .1 z)
+        by (go p) e f =
+            let up : st .at < r .state .at = omega (arith, f .at-is, next-low (R .kind) (R .given) text (st .at) h) in
+            (record {
+              progress = p;
+              keeps = f .keeps;
+              size = l;
+              lengths = m;
+              low = omega (arith, j .low);
+              high = omega (arith, f .at-is, next-high (R .kind) (R .given) text (st .at) h);
+              same =
+                  here ∙ ap (λ (x : Next). onNext x (suc place) (λ p. readFrom R (lines (drop (said .next) text)) p (suc place))) e
+                  ∙ ap (λ (k : ℕ). readFrom R (lines (drop k text)) p (suc place)) (sym (f .at-is))
+                  ∙ ap (readFrom R (lines (drop (r .state .at) text)) p) (sym (add-one place));
+            }, up)
+
+  pub judged-end : length text ≤ st .at → readFrom R (lines text) awaiting 0 ≡ finish (j .progress)
+  judged-end h = j .same ∙ ap (λ (r : List ℕ). readFrom R (lines r) (j .progress) place) (drop-of-length-le text h)
+
+  pub judged-rows : RowsRead (finish (j .progress)) C
+  judged-rows = by (j .progress) (j .keeps .rows-are)
+    where
+      either : (b : Bool) (c : Counts) (es : List Entry) → Rows es C → RowsRead (cond b (read c es) (refused 7 0)) C
+      either true c es h = h
+      either false c es h = tt
+
+      by : (p : Progress) → Rows (entriesSince p) C → RowsRead (finish p) C
+      by awaiting h = tt
+      by (begun c es) h = either (eqb (length es) (c .rows)) c es h
+
 -- ---- before the lines
 
-module _ (L : Limits) (same : L ≡ base) (kind : Kind) (given room : ℕ) (text : List ℕ) where
+-- what is said of the reading: its answer and its rows
+abbrev pub Told : Reading → Columns → Read → Type 0
+Told reading C answer = RowsRead reading C × (answer ≡ answered reading)
+
+module _ (L : Limits) (same : L ≡ base) (kind : Kind) (given room : ℕ) (text : List ℕ) (C : Columns) where
   abbrev rules : Limits → Rules
   rules limits = record { limits = limits; kind = kind; given = given; room = room }
 
-  pub too-long : L .text < length text → Refused 1 0 ≡ answered (reading (rules base) text)
-  too-long h = subst (λ (M : Limits). Refused 1 0 ≡ answered (reading (rules M) text)) same (rw (lt-leb (length text) (L .text) h))
+  pub too-long : L .text < length text → Told (reading (rules base) text) C (Refused 1 0)
+  too-long h = subst (λ (M : Limits). Told (reading (rules M) text) C (Refused 1 0)) same (rw (lt-leb (length text) (L .text) h) (tt, refl))
 
-  pub not-handed : length text ≤ L .text → handedIn L kind given ≡ false → Refused 4 0 ≡ answered (reading (rules base) text)
-  not-handed h n = subst (λ (M : Limits). Refused 4 0 ≡ answered (reading (rules M) text)) same (rw (le-leb (length text) (L .text) h, n))
+  pub not-handed : length text ≤ L .text → handedIn L kind given ≡ false → Told (reading (rules base) text) C (Refused 4 0)
+  not-handed h n = subst (λ (M : Limits). Told (reading (rules M) text) C (Refused 4 0)) same (rw (le-leb (length text) (L .text) h, n) (tt, refl))
 
-  pub lines-judged : (answer : Read) → length text ≤ L .text → handedIn L kind given ≡ true → answer ≡ answered (readFrom (rules L) (lines text) awaiting 0)
-      → answer ≡ answered (reading (rules base) text)
-  lines-judged answer h n e = subst (λ (M : Limits). answer ≡ answered (reading (rules M) text)) same (rw (le-leb (length text) (L .text) h, n) e)
+  pub lines-judged : (answer : Read) → length text ≤ L .text → handedIn L kind given ≡ true → Told (readFrom (rules L) (lines text) awaiting 0) C answer
+      → Told (reading (rules base) text) C answer
+  lines-judged answer h n e = subst (λ (M : Limits). Told (reading (rules M) text) C answer) same (rw (le-leb (length text) (L .text) h, n) e)

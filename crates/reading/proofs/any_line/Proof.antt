@@ -13,7 +13,7 @@ advanced-requires : tie.Need-advanced-requires
 advanced-requires c κs =
     let moved = c .before .before .before .before in
     let start = moved .before .before .before .before .before in
-    moved-ready (start .args .rules) (start .args .st) (moved .moved .result) (moved .before .said-at .result .next) (moved .moved .ensures) _ _ (start .pre)
+    moved-ready (start .args .rules) (start .args .st) (moved .moved .result) (moved .before .said-at .result .next) (moved .moved .ensures) (start .pre)
 
 same-length : tie.Need-same-length
 same-length c = search needs
@@ -32,7 +32,7 @@ returns c =
     let advanced = c .before .before .before .before .before .before in
     let moved = advanced .before .before .before .before .before in
     let start = moved .before .before .before .before .before in
-    moved-answers (start .args .rules) (start .args .st) (moved .moved .result) (moved .before .said-at .result .next) (moved .moved .ensures) (moved .before .said-at .result .line) (start .args .text .now) (moved .before .said-at .ensures) (start .args .seen .now) _ _ (advanced .advanced .last .1 .1 .0) _ (advanced .advanced .ensures)
+    moved-answers (start .args .rules) (start .args .st) (moved .moved .result) (moved .before .said-at .result .next) (moved .moved .ensures) (moved .before .said-at .result .line) (start .args .text .now) (moved .before .said-at .ensures) _ _ _ (advanced .advanced .ensures)
 
 pub any-line-spec : {M : Type 1} → statement M
 any-line-spec =

@@ -32,7 +32,7 @@ added-requires : tie.Need-added-requires
 added-requires c κs =
     let moved = c .before .before .before .before in
     let start = moved .before .before .before .before .before .before .before in
-    moved-ready (start .args .rules) (start .args .st) (moved .moved .result) _ (moved .moved .ensures) _ _ (start .pre .1 .1)
+    moved-ready (start .args .rules) (start .args .st) (moved .moved .result) _ (moved .moved .ensures) (start .pre .1 .1)
 
 same-length-5 : tie.Need-same-length-5
 same-length-5 c = search needs
@@ -53,7 +53,7 @@ returns-2 c =
     let if1 = moved .before in
     let row = if1 .before .before in
     let start = row .before .before .before .before in
-    plain-answers (start .args .rules) (start .args .st) (moved .moved .result) (row .arc-at .result .next) (moved .moved .ensures) Graph _ (start .args .text .now) (start .pre .1 .0) (row .arc-at .ensures (if1 .if1 .left)) (start .args .seen .now) _ _ (added .added .last .1 .1 .0) _ (added .added .ensures)
+    plain-answers (start .args .rules) (start .args .st) (moved .moved .result) (row .arc-at .result .next) (moved .moved .ensures) Graph _ (start .args .text .now) (start .pre .1 .0) (row .arc-at .ensures (if1 .if1 .left)) _ _ _ (added .added .ensures)
 
 pub arc-line-spec : {M : Type 1} → statement M
 arc-line-spec =

@@ -1,75 +1,102 @@
+use Rattle.reading.specs.Rows.{columns}
+use Rattle.reading.proofs.Lines.{Judged, judged-start, judged-ready, judged-stop, judged-on, judged-end, judged-rows}
+use borrow.Author.Needs.{needs}
+use native.Mathlib.Omega.{arith}
+use Prim.Native.Nat.{_+_, _-_}
+use mathlib.Core.Path.{refl, sym, _∙_}
+use lib.ListN.{length}
 use Rattle.reading.proofs.judge.Statement.{statement}
 use Rattle.reading.proofs.judge.Tie as tie
-use Rattle.reading.proofs.judge.Reads as reads
-use Rattle.reading.proofs.judge.Lts as lts
-use Rattle.reading.proofs.finished.Reads as finished-reads
-use Rattle.reading.proofs.next_line.Reads as next-line-reads
 
 abbrev Inv-loop : tie.InvT-loop
-Inv-loop rules text nodes₀ seconds₀ thirds₀ seen₀ st₀ place₀ nodes seconds thirds seen st place = ?
+Inv-loop rules text nodes₀ seconds₀ thirds₀ seen₀ st₀ place₀ nodes seconds thirds seen st place =
+    Judged rules text (columns nodes₀ seconds₀ thirds₀) seen (columns nodes seconds thirds) st place
 
 abbrev μ-loop : tie.MeasureT-loop
-μ-loop rules text nodes₀ seconds₀ thirds₀ seen₀ st₀ place₀ nodes seconds thirds seen st place = ?
+μ-loop rules text nodes₀ seconds₀ thirds₀ seen₀ st₀ place₀ nodes seconds thirds seen st place = (length text + 1) - st .at
 
--- src/lib.rt:534:5
 loop-holds : tie.Need-loop-holds Inv-loop μ-loop
-loop-holds c = ?
+loop-holds c = judged-start _ _ _
 
--- src/lib.rt:535:47
 slice-aggregate-next-line : tie.Need-slice-aggregate-next-line Inv-loop μ-loop
-slice-aggregate-next-line c = ?
+slice-aggregate-next-line c = sym (c .before .before .before .loop .inv .size)
 
--- src/lib.rt:535:13
 next-line-requires : tie.Need-next-line-requires Inv-loop μ-loop
-next-line-requires c κs = ?
+next-line-requires c κs =
+    let if1 = c .before .before .before .before in
+    let loop = if1 .before .before in
+    let start = loop .before .before .before in
+    (omega (arith, if1 .if1 .taken), judged-ready (start .args .rules) (start .args .text .now) _ _ _ (loop .loop .st) (loop .loop .place) (loop .loop .inv) (start .pre .0) (start .pre .1))
 
--- src/lib.rt:536:9
 add-place : tie.Need-add-place Inv-loop μ-loop
-add-place c = ?
+add-place c =
+    let if1 = c .before .before .before .before .before .before .before .before .before .before in
+    let loop = if1 .before .before in
+    omega (arith, if1 .if1 .taken, loop .loop .inv .low)
 
--- src/lib.rt:539:13
 same-length : tie.Need-same-length Inv-loop μ-loop
-same-length c = ?
+same-length c =
+    let next-line = c .before .before .before .before .before .before in
+    next-line .next-line .kept .1 .1 .1 .1 .0 ∙ next-line .before .before .before .before .before .before .before .loop .inv .lengths .nodes
 
--- src/lib.rt:539:13
 same-length-2 : tie.Need-same-length-2 Inv-loop μ-loop
-same-length-2 c = ?
+same-length-2 c =
+    let next-line = c .before .before .before .before .before .before in
+    next-line .next-line .kept .1 .1 .1 .1 .1 .0 ∙ next-line .before .before .before .before .before .before .before .loop .inv .lengths .seconds
 
--- src/lib.rt:539:13
 same-length-3 : tie.Need-same-length-3 Inv-loop μ-loop
-same-length-3 c = ?
+same-length-3 c =
+    let next-line = c .before .before .before .before .before .before in
+    next-line .next-line .kept .1 .1 .1 .1 .1 .1 .0 ∙ next-line .before .before .before .before .before .before .before .loop .inv .lengths .thirds
 
--- src/lib.rt:539:13
 returns : tie.Need-returns Inv-loop μ-loop
-returns c = ?
+returns c =
+    let next-line = c .before .before .before .before .before .before in
+    let if1 = next-line .before .before .before .before .before in
+    let loop = if1 .before .before in
+    let start = loop .before .before .before in
+    rw (judged-stop (start .args .rules) (start .args .text .now) _ _ _ (loop .loop .st) (loop .loop .place) (loop .loop .inv) (if1 .if1 .taken) (next-line .next-line .result) _ _ (next-line .next-line .ensures) (c .if2 .taken)) (tt, refl)
 
--- src/lib.rt:534:5
 loop-less : tie.Need-loop-less Inv-loop μ-loop
-loop-less c = ?
+loop-less c =
+    let next-line = c .before .before .before .before .before .before .before in
+    let if1 = next-line .before .before .before .before .before in
+    let loop = if1 .before .before in
+    let start = loop .before .before .before in
+    let kept = next-line .next-line .kept in
+    let lengths = loop .loop .inv .lengths in
+    let on = judged-on (start .args .rules) (start .args .text .now) _ _ _ (loop .loop .st) (loop .loop .place) (loop .loop .inv) (if1 .if1 .taken) (next-line .next-line .result) _ _ (next-line .next-line .ensures) (c .before .if2 .left) (kept .1 .1 .1 .0 ∙ loop .loop .inv .size) (record { nodes = kept .1 .1 .1 .1 .0 ∙ lengths .nodes; seconds = kept .1 .1 .1 .1 .1 .0 ∙ lengths .seconds; thirds = kept .1 .1 .1 .1 .1 .1 .0 ∙ lengths .thirds }) in
+    omega (arith, on .1, if1 .if1 .taken)
 
--- src/lib.rt:534:5
 loop-again : tie.Need-loop-again Inv-loop μ-loop
-loop-again c = ?
+loop-again c =
+    let next-line = c .before .before .before .before .before .before .before in
+    let if1 = next-line .before .before .before .before .before in
+    let loop = if1 .before .before in
+    let start = loop .before .before .before in
+    let kept = next-line .next-line .kept in
+    let lengths = loop .loop .inv .lengths in
+    let on = judged-on (start .args .rules) (start .args .text .now) _ _ _ (loop .loop .st) (loop .loop .place) (loop .loop .inv) (if1 .if1 .taken) (next-line .next-line .result) _ _ (next-line .next-line .ensures) (c .before .if2 .left) (kept .1 .1 .1 .0 ∙ loop .loop .inv .size) (record { nodes = kept .1 .1 .1 .1 .0 ∙ lengths .nodes; seconds = kept .1 .1 .1 .1 .1 .0 ∙ lengths .seconds; thirds = kept .1 .1 .1 .1 .1 .1 .0 ∙ lengths .thirds }) in
+    on .0
 
--- src/lib.rt:543:5
 finished-requires : tie.Need-finished-requires Inv-loop μ-loop
-finished-requires c κs = ?
+finished-requires c κs = search needs
 
--- src/lib.rt:514:1
 same-length-4 : tie.Need-same-length-4 Inv-loop μ-loop
-same-length-4 c = ?
+same-length-4 c = c .before .before .before .loop .inv .lengths .nodes
 
--- src/lib.rt:514:1
 same-length-5 : tie.Need-same-length-5 Inv-loop μ-loop
-same-length-5 c = ?
+same-length-5 c = c .before .before .before .loop .inv .lengths .seconds
 
--- src/lib.rt:514:1
 same-length-6 : tie.Need-same-length-6 Inv-loop μ-loop
-same-length-6 c = ?
+same-length-6 c = c .before .before .before .loop .inv .lengths .thirds
 
--- src/lib.rt:514:1
 returns-2 : tie.Need-returns-2 Inv-loop μ-loop
-returns-2 c = ?
+returns-2 c =
+    let loop = c .before .before .before in
+    let start = loop .before .before .before in
+    let inv = loop .loop .inv in
+    rw (judged-end (start .args .rules) (start .args .text .now) _ _ _ (loop .loop .st) (loop .loop .place) inv (c .before .if1 .left)) (judged-rows (start .args .rules) (start .args .text .now) _ _ _ (loop .loop .st) (loop .loop .place) inv, c .finished .ensures (start .args .rules) (inv .progress) (inv .keeps .stands))
 
 pub judge-spec : {M : Type 1} → statement M
 judge-spec =

@@ -34,7 +34,7 @@ added-requires : tie.Need-added-requires
 added-requires c κs =
     let moved = c .before .before .before .before in
     let start = moved .before .before .before .before .before .before .before .before in
-    moved-ready (start .args .rules) (start .args .st) (moved .moved .result) _ (moved .moved .ensures) _ _ (start .pre .1 .1)
+    moved-ready (start .args .rules) (start .args .st) (moved .moved .result) _ (moved .moved .ensures) (start .pre .1 .1)
 
 same-length-5 : tie.Need-same-length-5
 same-length-5 c = search needs
@@ -58,7 +58,7 @@ returns-2 c =
     let told = moved .before .struct-told .given in
     let p = row .point-at .result in
     let held = held-point (p .node) (p .x) (p .y) (record { sfits = told .1 .0 .1 }) (record { sfits = told .1 .1 .0 .1 }) in
-    plain-answers (start .args .rules) (start .args .st) (moved .moved .result) (p .next) (moved .moved .ensures) Coordinates (Point (p .node) (p .x) (p .y)) (start .args .text .now) (start .pre .1 .0) (row .point-at .ensures (if1 .if1 .left)) (start .args .seen .now) _ _ (added .added .last .1 .1 .0) _ (rw held at (added .added .ensures))
+    plain-answers (start .args .rules) (start .args .st) (moved .moved .result) (p .next) (moved .moved .ensures) Coordinates (Point (p .node) (p .x) (p .y)) (start .args .text .now) (start .pre .1 .0) (row .point-at .ensures (if1 .if1 .left)) _ _ _ (rw held at (added .added .ensures))
 
 pub point-line-spec : {M : Type 1} → statement M
 point-line-spec =
