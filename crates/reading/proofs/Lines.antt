@@ -25,13 +25,12 @@ use Rattle.meaning.specs.declared.Read.the-variants.{Refused}
 use Rattle.meaning.specs.declared.Rules.{Rules}
 use Rattle.text.specs.Scan.{run, inLine}
 use Rattle.text.specs.Read.{pieceAt}
-use Rattle.text.specs.declared.Piece.{Piece}
 use Rattle.text.specs.declared.Piece.the-variants as Piece
 use Rattle.text.proofs.Laws.{run-le, lines-cut}
 use Rattle.grammar.specs.Plain.{firstSays, Says}
 use Rattle.reading.specs.Said.{saidAt}
-use Rattle.reading.specs.Rows.{Columns, columns, Wide, Rows, RowsRead}
-use Rattle.reading.specs.Follows.{movedTo, Ready, Stands, entriesSince, Keeps, Went, Follows, Answers, AnswersNext}
+use Rattle.reading.specs.Rows.{Columns, Wide, Rows, RowsRead}
+use Rattle.reading.specs.Follows.{movedTo, Ready, entriesSince, Keeps, Went, Follows, Answers, AnswersNext}
 use Rattle.reading.specs.declared.Said.{Said}
 use Rattle.reading.specs.declared.State.{State}
 use Rattle.reading.specs.declared.Step.{Step}
@@ -118,6 +117,20 @@ module _ (R : Rules) (s moved : State) (next : ℕ) (moved-is : moved ≡ movedT
       → Answers R moved seen C (Data e) (moved .at) r seen′ C′ → AnswersNext R text s seen C r seen′ C′
   plain-answers kind e text k says = moved-answers (Data e) text (rw (k, lt-ltb (s .at) (length text) (says .some), says .line (R .given), ← says .next-is))
 
+module _ (R : Rules) (at : ℕ) (r : Step) (seen : List ℕ) (C : Columns) where
+  stopped : (x : Next) → (r .number ≡ 0 → ⊥) → Follows R at r seen C x → x ≡ stop (r .number)
+  stopped (stop number) z f = ap stop (sym (f .0))
+  stopped (go p) z f = absurd (z (f .number-is))
+
+  record Gone (x : Next) : Type 0 where
+    pub progress : Progress
+    pub same : x ≡ go progress
+    pub went : Went R at r seen C progress
+
+  gone : (x : Next) → r .number ≡ 0 → Follows R at r seen C x → Gone x
+  gone (stop number) z f = absurd (f .1 z)
+  gone (go p) z f = record { progress = p; same = refl; went = f }
+
 -- ---- the judging loop: what is left to read gives the whole reading
 
 pub record SameLengths (C₀ C : Columns) : Type 0 where
@@ -177,32 +190,34 @@ module _ (R : Rules) (text : List ℕ) (C₀ : Columns) (seen : List ℕ) (C : C
         ∙ ap (λ (l : Line). onNext (step R (j .progress) l) (suc place) (λ p. readFrom R (lines (drop (said .next) text)) p (suc place)))
         (sym (line-is (R .kind) (R .given) text (st .at) h))
 
-    pub judged-stop : (r .number ≡ 0 → ⊥) → readFrom R (lines text) awaiting 0 ≡ refused (r .number) (place + 1)
-    judged-stop z = here ∙ by (step R (j .progress) (said .line)) (answers (j .progress) (j .keeps))
-      where
-        by : (x : Next) → Follows R (said .next) r seen′ C′ x → onNext x (suc place) (λ p. readFrom R (lines (drop (said .next) text)) p (suc place)) ≡ refused (r .number) (place + 1)
-        by (stop number) f = ap (λ (n : ℕ). refused n (suc place)) (sym (f .0)) ∙ ap (refused (r .number)) (sym (add-one place))
-        by (go p) f = absurd (z (f .number-is))
+    follows : Follows R (said .next) r seen′ C′ (step R (j .progress) (said .line))
+    follows = answers (j .progress) (j .keeps)
 
-    pub judged-on : r .number ≡ 0 → length seen′ ≡ 32 → SameLengths C₀ C′ → Judged R text C₀ seen′ C′ (r .state) (place + 1) × (st .at < r .state .at)
-    judged-on z l m = by (step R (j .progress) (said .line)) refl (answers (j .progress) (j .keeps))
-      where
-        by : (x : Next) → step R (j .progress) (said .line) ≡ x → Follows R (said .next) r seen′ C′ x → Judged R text C₀ seen′ C′ (r .state) (place + 1) × (st .at < r .state .at)
-        by (stop number) e f = absurd (f .1 z)
-        by (go p) e f =
-            let up : st .at < r .state .at = omega (arith, f .at-is, next-low (R .kind) (R .given) text (st .at) h) in
-            (record {
-              progress = p;
-              keeps = f .keeps;
-              size = l;
-              lengths = m;
-              low = omega (arith, j .low);
-              high = omega (arith, f .at-is, next-high (R .kind) (R .given) text (st .at) h);
-              same =
-                  here ∙ ap (λ (x : Next). onNext x (suc place) (λ p. readFrom R (lines (drop (said .next) text)) p (suc place))) e
-                  ∙ ap (λ (k : ℕ). readFrom R (lines (drop k text)) p (suc place)) (sym (f .at-is))
-                  ∙ ap (readFrom R (lines (drop (r .state .at) text)) p) (sym (add-one place));
-            }, up)
+    pub judged-stop : (r .number ≡ 0 → ⊥) → readFrom R (lines text) awaiting 0 ≡ refused (r .number) (place + 1)
+    judged-stop z =
+        here ∙ ap (λ (x : Next). onNext x (suc place) (λ p. readFrom R (lines (drop (said .next) text)) p (suc place))) (stopped R (said .next) r seen′ C′ (step R (j .progress) (said .line)) z follows)
+        ∙ ap (refused (r .number)) (sym (add-one place))
+
+    module _ (z : r .number ≡ 0) where
+      on : Gone R (said .next) r seen′ C′ (step R (j .progress) (said .line))
+      on = gone R (said .next) r seen′ C′ (step R (j .progress) (said .line)) z follows
+
+      pub judged-up : st .at < r .state .at
+      judged-up = omega (arith, on .went .at-is, next-low (R .kind) (R .given) text (st .at) h)
+
+      pub judged-on : length seen′ ≡ 32 → SameLengths C₀ C′ → Judged R text C₀ seen′ C′ (r .state) (place + 1)
+      judged-on l m = record {
+        progress = on .progress;
+        keeps = on .went .keeps;
+        size = l;
+        lengths = m;
+        low = omega (arith, j .low, judged-up);
+        high = omega (arith, on .went .at-is, next-high (R .kind) (R .given) text (st .at) h);
+        same =
+            here ∙ ap (λ (x : Next). onNext x (suc place) (λ p. readFrom R (lines (drop (said .next) text)) p (suc place))) (on .same)
+            ∙ ap (λ (k : ℕ). readFrom R (lines (drop k text)) (on .progress) (suc place)) (sym (on .went .at-is))
+            ∙ ap (readFrom R (lines (drop (r .state .at) text)) (on .progress)) (sym (add-one place));
+      }
 
   pub judged-end : length text ≤ st .at → readFrom R (lines text) awaiting 0 ≡ finish (j .progress)
   judged-end h = j .same ∙ ap (λ (r : List ℕ). readFrom R (lines r) (j .progress) place) (drop-of-length-le text h)

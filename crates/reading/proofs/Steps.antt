@@ -16,11 +16,13 @@ use Rattle.meaning.specs.Files.{within, mostRows, agrees, countsFault, entryFau
 use Rattle.meaning.proofs.Tests.{both, passed, failed, within-is, else-zero, else-later, else-first}
 use Rattle.meaning.proofs.Reading.{arc-fine, node-fine, given-more}
 use Rattle.meaning.specs.declared.Limits.{Limits}
+use Rattle.meaning.specs.declared.Kind.{Kind}
+use Rattle.meaning.specs.declared.Kind.the-variants.{Graph, Coordinates, Sites}
 use Rattle.meaning.specs.declared.Rules.{Rules}
 use Rattle.meaning.specs.declared.Counts.{Counts}
 use Rattle.meaning.specs.declared.Entry.{Entry}
 use Rattle.meaning.specs.declared.Entry.the-variants.{Arc, Point, Site}
-use Rattle.meaning.specs.declared.Line.the-variants.{Problem, Data}
+use Rattle.meaning.specs.declared.Line.the-variants.{Data}
 use Rattle.meaning.specs.declared.Read.the-variants.{Refused, Accepted}
 use Rattle.reading.specs.Marks.{isMarked, Added}
 use Rattle.reading.specs.Rows.{Columns, columns, secondOf, thirdOf, Rows}
@@ -132,11 +134,17 @@ small L n (Arc u v w) q h z =
 small L n (Point v x y) q h z = tt
 small L n (Site v) q h z = tt
 
+most-rows : (kind : Kind) → mostRows base kind ≤ 4096
+most-rows Graph = omega arith
+most-rows Coordinates = omega arith
+most-rows Sites = omega arith
+
 -- the entry's node has a bit, and its numbers a place in each column
 pub record Fitting (e : Entry) (place : ℕ) (C : Columns) : Type 0 where
   pub low : 1 ≤ nodeOf e
   pub high : nodeOf e ≤ 1024
   pub small : Small e
+  pub few : place < 4096
   pub nodes : place < length (C .nodes)
   pub seconds : place < length (C .seconds)
   pub thirds : place < length (C .thirds)
@@ -176,6 +184,7 @@ module _ (R : Rules) (e : Entry) (s : State) where
           low = n .low;
           high = omega (arith, ready .few);
           small = small (R .limits) (s .nodes) e (ready .limits) (ready .few) (a .1);
+          few = omega (arith, ready .room, most-rows (R .kind));
           nodes = omega (arith, ready .room, ready .wide .nodes);
           seconds = omega (arith, ready .room, ready .wide .seconds);
           thirds = omega (arith, ready .room, ready .wide .thirds);

@@ -1,11 +1,10 @@
 // Judges a text: its size, the N handed in, and its lines in order. The marks of the nodes given are written, and a row for each entry.
 ghost use mathlib.Core.Path.{_≡_};
-ghost use mathlib.Core.List.{List};
-ghost use Prim.Native.Nat.{ℕ, _*_, _≤_};
+ghost use Prim.Native.Nat.{_≤_};
 ghost use lib.ListN.{length};
 ghost use lib.IntN.{natAbs};
 ghost use Rattle.meaning.specs.Limits.{base};
-ghost use Rattle.meaning.specs.Files.{Progress, awaiting, within as isWithin, isCoordinate, mostRows, agrees as isAgreed, countsFault, entryFault, nodeOf, readFrom, handedIn, reading, answered, finish};
+ghost use Rattle.meaning.specs.Files.{awaiting, within as isWithin, isCoordinate, mostRows, agrees as isAgreed, countsFault, entryFault, nodeOf, readFrom, handedIn, reading, answered};
 ghost use Rattle.meaning.specs.Text.{lines};
 ghost use Rattle.meaning.specs.Checks.{orElse};
 ghost use Rattle.reading.specs.Said.{saidAt};

@@ -1,5 +1,5 @@
-use Rattle.reading.specs.Rows.{columns}
-use Rattle.reading.proofs.Lines.{Judged, judged-start, judged-ready, judged-stop, judged-on, judged-end, judged-rows}
+use Rattle.reading.specs.Rows.{Columns, columns}
+use Rattle.reading.proofs.Lines.{SameLengths, Judged, judged-start, judged-ready, judged-stop, judged-up, judged-on, judged-end, judged-rows}
 use borrow.Author.Needs.{needs}
 use native.Mathlib.Omega.{arith}
 use Prim.Native.Nat.{_+_, _-_}
@@ -14,6 +14,20 @@ Inv-loop rules text nodes₀ seconds₀ thirds₀ seen₀ st₀ place₀ nodes s
 
 abbrev μ-loop : tie.MeasureT-loop
 μ-loop rules text nodes₀ seconds₀ thirds₀ seen₀ st₀ place₀ nodes seconds thirds seen st place = (length text + 1) - st .at
+
+-- the columns at entry, and after a line: they keep their lengths
+abbrev lent : tie.After-thirds Inv-loop μ-loop → Columns
+lent c = let args = c .before .before .before .before .before .before .before .before .before .before .before .before .before .before .before .args in columns (args .nodes .now) (args .seconds .now) (args .thirds .now)
+
+abbrev left : tie.After-thirds Inv-loop μ-loop → Columns
+left c = let last = c .before .before .before .before .before .next-line .last in columns (last .1 .1 .1 .1 .0) (last .1 .1 .1 .1 .1 .0) (last .1 .1 .1 .1 .1 .1 .0)
+
+lengths : (c : tie.After-thirds Inv-loop μ-loop) → SameLengths (lent c) (left c)
+lengths c =
+    let next-line = c .before .before .before .before .before in
+    let kept = next-line .next-line .kept in
+    let lengths = next-line .before .before .before .before .before .before .before .loop .inv .lengths in
+    record { nodes = kept .1 .1 .1 .1 .0 ∙ lengths .nodes; seconds = kept .1 .1 .1 .1 .1 .0 ∙ lengths .seconds; thirds = kept .1 .1 .1 .1 .1 .1 .0 ∙ lengths .thirds }
 
 loop-holds : tie.Need-loop-holds Inv-loop μ-loop
 loop-holds c = judged-start _ _ _
@@ -35,19 +49,13 @@ add-place c =
     omega (arith, if1 .if1 .taken, loop .loop .inv .low)
 
 same-length : tie.Need-same-length Inv-loop μ-loop
-same-length c =
-    let next-line = c .before .before .before .before .before .before in
-    next-line .next-line .kept .1 .1 .1 .1 .0 ∙ next-line .before .before .before .before .before .before .before .loop .inv .lengths .nodes
+same-length c = lengths (c .before) .nodes
 
 same-length-2 : tie.Need-same-length-2 Inv-loop μ-loop
-same-length-2 c =
-    let next-line = c .before .before .before .before .before .before in
-    next-line .next-line .kept .1 .1 .1 .1 .1 .0 ∙ next-line .before .before .before .before .before .before .before .loop .inv .lengths .seconds
+same-length-2 c = lengths (c .before) .seconds
 
 same-length-3 : tie.Need-same-length-3 Inv-loop μ-loop
-same-length-3 c =
-    let next-line = c .before .before .before .before .before .before in
-    next-line .next-line .kept .1 .1 .1 .1 .1 .1 .0 ∙ next-line .before .before .before .before .before .before .before .loop .inv .lengths .thirds
+same-length-3 c = lengths (c .before) .thirds
 
 returns : tie.Need-returns Inv-loop μ-loop
 returns c =
@@ -55,7 +63,7 @@ returns c =
     let if1 = next-line .before .before .before .before .before in
     let loop = if1 .before .before in
     let start = loop .before .before .before in
-    rw (judged-stop (start .args .rules) (start .args .text .now) _ _ _ (loop .loop .st) (loop .loop .place) (loop .loop .inv) (if1 .if1 .taken) (next-line .next-line .result) _ _ (next-line .next-line .ensures) (c .if2 .taken)) (tt, refl)
+    rw (judged-stop (start .args .rules) (start .args .text .now) _ _ _ (loop .loop .st) (loop .loop .place) (loop .loop .inv) (if1 .if1 .taken) (next-line .next-line .result) _ (left (c .before)) (next-line .next-line .ensures) (c .if2 .taken)) (tt, refl)
 
 loop-less : tie.Need-loop-less Inv-loop μ-loop
 loop-less c =
@@ -63,10 +71,7 @@ loop-less c =
     let if1 = next-line .before .before .before .before .before in
     let loop = if1 .before .before in
     let start = loop .before .before .before in
-    let kept = next-line .next-line .kept in
-    let lengths = loop .loop .inv .lengths in
-    let on = judged-on (start .args .rules) (start .args .text .now) _ _ _ (loop .loop .st) (loop .loop .place) (loop .loop .inv) (if1 .if1 .taken) (next-line .next-line .result) _ _ (next-line .next-line .ensures) (c .before .if2 .left) (kept .1 .1 .1 .0 ∙ loop .loop .inv .size) (record { nodes = kept .1 .1 .1 .1 .0 ∙ lengths .nodes; seconds = kept .1 .1 .1 .1 .1 .0 ∙ lengths .seconds; thirds = kept .1 .1 .1 .1 .1 .1 .0 ∙ lengths .thirds }) in
-    omega (arith, on .1, if1 .if1 .taken)
+    omega (arith, judged-up (start .args .rules) (start .args .text .now) _ _ _ (loop .loop .st) (loop .loop .place) (loop .loop .inv) (if1 .if1 .taken) (next-line .next-line .result) _ (left (c .before .before)) (next-line .next-line .ensures) (c .before .if2 .left), if1 .if1 .taken)
 
 loop-again : tie.Need-loop-again Inv-loop μ-loop
 loop-again c =
@@ -74,10 +79,7 @@ loop-again c =
     let if1 = next-line .before .before .before .before .before in
     let loop = if1 .before .before in
     let start = loop .before .before .before in
-    let kept = next-line .next-line .kept in
-    let lengths = loop .loop .inv .lengths in
-    let on = judged-on (start .args .rules) (start .args .text .now) _ _ _ (loop .loop .st) (loop .loop .place) (loop .loop .inv) (if1 .if1 .taken) (next-line .next-line .result) _ _ (next-line .next-line .ensures) (c .before .if2 .left) (kept .1 .1 .1 .0 ∙ loop .loop .inv .size) (record { nodes = kept .1 .1 .1 .1 .0 ∙ lengths .nodes; seconds = kept .1 .1 .1 .1 .1 .0 ∙ lengths .seconds; thirds = kept .1 .1 .1 .1 .1 .1 .0 ∙ lengths .thirds }) in
-    on .0
+    judged-on (start .args .rules) (start .args .text .now) _ _ _ (loop .loop .st) (loop .loop .place) (loop .loop .inv) (if1 .if1 .taken) (next-line .next-line .result) _ (left (c .before .before)) (next-line .next-line .ensures) (c .before .if2 .left) (next-line .next-line .kept .1 .1 .1 .0 ∙ loop .loop .inv .size) (lengths (c .before .before))
 
 finished-requires : tie.Need-finished-requires Inv-loop μ-loop
 finished-requires c κs = search needs

@@ -1,7 +1,6 @@
 use Rattle.reading.proofs.Sizes.{held, small-fits, small-held}
 use borrow.Author.Needs.{needs}
 use native.Mathlib.Omega.{arith}
-use mathlib.Core.Path.{sym, _∙_}
 use Rattle.reading.proofs.third_of.Statement.{statement}
 use Rattle.reading.proofs.third_of.Tie as tie
 
