@@ -1,4 +1,4 @@
--- The lines of a text one after the other, as the loops walk over them.
+-- The lines of a text one after the other, as the loop walks over them.
 use Prim.Native.Nat.{ℕ, zero, suc, _+_, _-_, _/_, _%_, _^_, _≤_, _<_}
 use mathlib.Core.Path.{_≡_, refl, ap, sym, _∙_, subst}
 use mathlib.Core.List.{List, _∷_}
@@ -80,20 +80,20 @@ module _ (K : Kind) (g : ℕ) (text : List ℕ) (at : ℕ) (h : at < length text
   said-is : saidAt K g text at ≡ record { line = firstSays K g (drop at text); next = at + run inLine (drop at text) + 1 }
   said-is = rw (lt-ltb at (length text) h)
 
-  pub line-is : saidAt K g text at .line ≡ firstSays K g (drop at text)
+  line-is : saidAt K g text at .line ≡ firstSays K g (drop at text)
   line-is = ap (λ (s : Said). s .line) said-is
 
   next-is : saidAt K g text at .next ≡ at + run inLine (drop at text) + 1
   next-is = ap (λ (s : Said). s .next) said-is
 
-  pub next-low : at < saidAt K g text at .next
+  next-low : at < saidAt K g text at .next
   next-low = omega (arith, next-is)
 
-  pub next-high : saidAt K g text at .next ≤ length text + 1
+  next-high : saidAt K g text at .next ≤ length text + 1
   next-high = omega (arith, next-is, run-le inLine (drop at text), length-drop at text)
 
   -- the line at a position, and the lines from the next position on
-  pub lines-at : lines (drop at text) ≡ take (run inLine (drop at text)) (drop at text) ∷ lines (drop (saidAt K g text at .next) text)
+  lines-at : lines (drop at text) ≡ take (run inLine (drop at text)) (drop at text) ∷ lines (drop (saidAt K g text at .next) text)
   lines-at =
       let i : at + suc (run inLine (drop at text)) ≡ saidAt K g text at .next = omega (arith, next-is) in
       lines-cut (drop at text) (omega (arith, length-drop at text))
