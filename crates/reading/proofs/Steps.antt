@@ -1,48 +1,86 @@
 -- Each way on from a line, as the rules have it.
 use Prim.Native.Nat.{ℕ, suc, _+_, _-_, _*_, _≤_, _<_}
 use mathlib.Core.Path.{_≡_, refl, ap, sym, _∙_, subst}
-use mathlib.Core.List.{List, [], _∷_, _++_}
+use mathlib.Core.List.{List, [], _∷_, _++_, map, map-append}
 use mathlib.Core.Bool.{Bool, true, false, _&&_, _||_, or-comm}
-use lib.ListN.{length, length-append}
+use lib.IntN.{ℤ}
+use lib.ListN.{length, take, set, length-append}
+use lib.Seq.{take-suc-set}
 use lib.Dec.{leb, eqb}
+use native.Mathlib.Numerals.{add-one}
 use native.Mathlib.Omega.{arith}
-use borrow.Author.Tests.{eq-eqb, ne-eqb, eqb-true, eqb-false, leb-false, lt-leb}
+use borrow.Author.Tests.{eq-eqb, ne-eqb, eqb-true, eqb-false, leb-false, leb-true, lt-leb}
+use Rattle.meaning.specs.Limits.{base}
+use Rattle.meaning.specs.Checks.{orElse}
 use Rattle.meaning.specs.Files.{within, mostRows, agrees, countsFault, entryFault, nodeOf, isGiven, repeated, Progress, awaiting, begun, step, finish, answered}
-use Rattle.meaning.proofs.Tests.{not-both, both, passed, failed, within-is, else-zero, else-later, else-first}
-use Rattle.meaning.proofs.Reading.{NodeFine, node-fine, given-more}
+use Rattle.meaning.proofs.Tests.{both, passed, failed, within-is, else-zero, else-later, else-first}
+use Rattle.meaning.proofs.Reading.{arc-fine, node-fine, given-more}
+use Rattle.meaning.specs.declared.Limits.{Limits}
+use Rattle.meaning.specs.declared.Kind.{Kind}
+use Rattle.meaning.specs.declared.Kind.the-variants.{Graph, Coordinates, Sites}
 use Rattle.meaning.specs.declared.Rules.{Rules}
 use Rattle.meaning.specs.declared.Counts.{Counts}
 use Rattle.meaning.specs.declared.Entry.{Entry}
 use Rattle.meaning.specs.declared.Entry.the-variants.{Arc, Point, Site}
-use Rattle.meaning.specs.declared.Line.the-variants.{Problem, Data}
+use Rattle.meaning.specs.declared.Line.the-variants.{Data}
 use Rattle.meaning.specs.declared.Read.the-variants.{Refused, Accepted}
 use Rattle.reading.specs.Marks.{isMarked, Added}
-use Rattle.reading.specs.Follows.{stateOf, onlyOnce, tooMany, dataFault, Tracks, Keeps, Follows}
+use Rattle.reading.specs.Rows.{Columns, columns, secondOf, thirdOf, Rows}
+use Rattle.reading.specs.Follows.{onlyOnce, tooMany, dataFault, Small, Ready, Counted, Stands, Tracks, Follows, Answers, AnswersProblem}
 use Rattle.reading.specs.declared.State.{State}
-use Rattle.reading.specs.declared.Step.the-variants.{On, Stop}
+use Rattle.reading.specs.declared.Step.{Step}
 
-counts-few : (R : Rules) (c : Counts) → countsFault R c ≡ 0 → c .nodes ≤ R .limits .nodes
-counts-few R c h =
-    let rest : Bool = leb (c .rows) (mostRows (R .limits) (R .kind)) && agrees (R .kind) (R .given) (c .nodes) in
+-- ---- counts that were accepted
+
+record CountsFine (R : Rules) (c : Counts) : Type 0 where
+  pub some : 1 ≤ c .nodes
+  pub few : c .nodes ≤ R .limits .nodes
+  pub most : c .rows ≤ mostRows (R .limits) (R .kind)
+
+counts-fine : (R : Rules) (c : Counts) → countsFault R c ≡ 0 → CountsFine R c
+counts-fine R c h =
+    let most : Bool = leb (c .rows) (mostRows (R .limits) (R .kind)) in
+    let rest : Bool = most && agrees (R .kind) (R .given) (c .nodes) in
     let inside : Bool = within 1 (c .nodes) (R .limits .nodes) in
-    within-is 1 (c .nodes) (R .limits .nodes) (both inside rest (passed (inside && rest) _ 4 (omega arith) h .0) .0) .1
+    let two = both inside rest (passed (inside && rest) _ 4 (omega arith) h .0) in
+    let n = within-is 1 (c .nodes) (R .limits .nodes) (two .0) in
+    record { some = n .0; few = n .1; most = leb-true (c .rows) (mostRows (R .limits) (R .kind)) (both most (agrees (R .kind) (R .given) (c .nodes)) (two .1) .0) }
+
+-- so a state without nodes stands before the problem line
+has-nodes : (R : Rules) (nodes rows count : ℕ) (c : Counts) (es : List Entry) → Counted R nodes rows count c es → nodes ≡ 0 → ⊥
+has-nodes R nodes rows count c es q h = omega (arith, counts-fine R c (q .fine), q .nodes-are)
+
+module _ (R : Rules) (nodes rows count : ℕ) where
+  pub stands-few : (p : Progress) → Stands R nodes rows count p → nodes ≤ R .limits .nodes
+  stands-few awaiting q = omega (arith, q .0)
+  stands-few (begun c es) q = omega (arith, counts-fine R c (q .fine), q .nodes-are)
+
+  pub stands-room : (p : Progress) → Stands R nodes rows count p → rows ≤ mostRows (R .limits) (R .kind)
+  stands-room awaiting q = omega (arith, q .1)
+  stands-room (begun c es) q = omega (arith, counts-fine R c (q .fine), q .rows-are)
 
 -- ---- a problem line
 
-module _ (R : Rules) (c : Counts) (s : State) (seen : List ℕ) where
-  pub problem-again : (p : Progress) → Keeps (R .limits .nodes) s seen p → s .begun ≡ true → Follows (R .limits .nodes) (Stop 3) seen (step R p (Problem c))
-  problem-again awaiting k h = absurd (not-both (rw (k .state) at h))
-  problem-again (begun d es) k h = refl
+abbrev refusing : ℕ → State → Step
+refusing number s = record { number = number; state = s }
 
-  pub problem-fault : (p : Progress) (fault : ℕ) → Keeps (R .limits .nodes) s seen p → s .begun ≡ false → fault ≡ countsFault R c → (fault ≡ 0 → ⊥)
-      → Follows (R .limits .nodes) (Stop fault) seen (step R p (Problem c))
-  problem-fault awaiting fault k h e z = rw (← e, ne-eqb fault 0 z) refl
-  problem-fault (begun d es) fault k h e z = absurd (not-both (sym (rw (k .state) at h)))
+module _ (R : Rules) (c : Counts) (s : State) where
+  pub problem-again : (s .nodes ≡ 0 → ⊥) → AnswersProblem R s c (refusing 3 s)
+  problem-again h seen C awaiting k = absurd (h (k .stands .0))
+  problem-again h seen C (begun d es) k = (refl, λ o. omega arith)
 
-  pub problem-on : (p : Progress) → Keeps (R .limits .nodes) s seen p → s .begun ≡ false → countsFault R c ≡ 0
-      → Follows (R .limits .nodes) (On (record { begun = true; nodes = c .nodes; rows = c .rows; count = 0 })) seen (step R p (Problem c))
-  problem-on awaiting k h z = rw z (record { state = refl; tracks = k .tracks; few = counts-few R c z })
-  problem-on (begun d es) k h z = absurd (not-both (sym (rw (k .state) at h)))
+  module _ (none : s .nodes ≡ 0) where
+    pub problem-fault : (fault : ℕ) → fault ≡ countsFault R c → (fault ≡ 0 → ⊥) → AnswersProblem R s c (refusing fault s)
+    problem-fault fault e z seen C awaiting k = rw (← e, ne-eqb fault 0 z) (refl, z)
+    problem-fault fault e z seen C (begun d es) k = absurd (has-nodes R (s .nodes) (s .rows) (s .count) d es (k .stands) none)
+
+    pub problem-on : countsFault R c ≡ 0 → AnswersProblem R s c (record { number = 0; state = record { at = s .at; nodes = c .nodes; rows = c .rows; count = 0 } })
+    problem-on z seen C awaiting k = rw z (record {
+      number-is = refl;
+      at-is = refl;
+      keeps = record { stands = record { nodes-are = refl; rows-are = refl; count-is = refl; fine = z }; tracks = k .tracks; rows-are = k .rows-are };
+    })
+    problem-on z seen C (begun d es) k = absurd (has-nodes R (s .nodes) (s .rows) (s .count) d es (k .stands) none)
 
 -- ---- the marks
 
@@ -68,87 +106,140 @@ module _ (seen : List ℕ) (es : List Entry) (tracks : Tracks seen es) where
       same true q = let i : j ≡ nodeOf e - 1 = eqb-true j (nodeOf e - 1) q in sym (eq-eqb (nodeOf e) (suc j) (omega arith))
       same false q = sym (ne-eqb (nodeOf e) (suc j) (λ i. eqb-false j (nodeOf e - 1) q (omega arith)))
 
+-- ---- the rows
+
+-- one column: the value of one entry more, at the place behind the others
+column-on : {A : Type 0} (f : Entry → A) (es : List Entry) (e : Entry) (xs : List A) (v : A) → length es < length xs → v ≡ f e → take (length es) xs ≡ map f es
+    → take (length (es ++ e ∷ [])) (set xs (length es) v) ≡ map f (es ++ e ∷ [])
+column-on {A} f es e xs v h i q =
+    let n : length (es ++ e ∷ []) ≡ suc (length es) = length-append es (e ∷ []) ∙ add-one (length es) in
+    rw n (take-suc-set xs (length es) v h ∙ ap (λ (l : List A). l ++ v ∷ []) q ∙ ap (λ (y : A). map f es ++ y ∷ []) i ∙ sym (map-append f es (e ∷ [])))
+
+module _ (C : Columns) (es : List Entry) (e : Entry) (n node : ℕ) (second third : ℤ) where
+  rows-on : Rows es C → n ≡ length es → node ≡ nodeOf e → second ≡ secondOf e → third ≡ thirdOf e
+      → n < length (C .nodes) → n < length (C .seconds) → n < length (C .thirds)
+      → Rows (es ++ e ∷ []) (columns (set (C .nodes) n node) (set (C .seconds) n second) (set (C .thirds) n third))
+  rows-on q i a b c h j k = rw i (record {
+    nodes = column-on nodeOf es e (C .nodes) node (omega arith) a (q .nodes);
+    seconds = column-on secondOf es e (C .seconds) second (omega arith) b (q .seconds);
+    thirds = column-on thirdOf es e (C .thirds) third (omega arith) c (q .thirds);
+  })
+
 -- ---- a data line
 
+small : (L : Limits) (n : ℕ) (e : Entry) → L ≡ base → n ≤ 1024 → entryFault L n e ≡ 0 → Small e
+small L n (Arc u v w) q h z =
+    let a = arc-fine L n u v w z in
+    (omega arith, omega (arith, ap (λ (M : Limits). M .weight) q))
+small L n (Point v x y) q h z = tt
+small L n (Site v) q h z = tt
+
+most-rows : (kind : Kind) → mostRows base kind ≤ 4096
+most-rows Graph = omega arith
+most-rows Coordinates = omega arith
+most-rows Sites = omega arith
+
+-- the entry's node has a bit, and its numbers a place in each column
+pub record Fitting (e : Entry) (place : ℕ) (C : Columns) : Type 0 where
+  pub low : 1 ≤ nodeOf e
+  pub high : nodeOf e ≤ 1024
+  pub small : Small e
+  pub few : place < 4096
+  pub nodes : place < length (C .nodes)
+  pub seconds : place < length (C .seconds)
+  pub thirds : place < length (C .thirds)
+
 module _ (R : Rules) (e : Entry) (s : State) where
-  pub data-early : (seen : List ℕ) (p : Progress) → s ≡ stateOf p → s .begun ≡ false → Follows (R .limits .nodes) (Stop 3) seen (step R p (Data e))
-  data-early seen awaiting q h = refl
-  data-early seen (begun d es) q h = absurd (not-both (sym (rw q at h)))
+  pub data-early : s .nodes ≡ 0 → (seen : List ℕ) (C : Columns) → Answers R s seen C (Data e) (s .at) (refusing 3 s) seen C
+  data-early h seen C awaiting k = (refl, λ o. omega arith)
+  data-early h seen C (begun d es) k = absurd (has-nodes R (s .nodes) (s .rows) (s .count) d es (k .stands) h)
 
   -- no fault: room for one more entry, and it passes its tests
-  pub data-fine : dataFault (R .limits) s e ≡ 0 → (s .count < s .rows) × (entryFault (R .limits) (s .nodes) e ≡ 0)
+  data-fine : dataFault (R .limits) s e ≡ 0 → (s .count < s .rows) × (entryFault (R .limits) (s .nodes) e ≡ 0)
   data-fine f =
       let a = else-zero (tooMany (s .rows) (s .count)) (entryFault (R .limits) (s .nodes) e) f in
       (leb-false (s .rows) (s .count) (failed (leb (s .rows) (s .count)) 7 0 (omega arith) (a .0) .0), a .1)
 
-  pub data-node : dataFault (R .limits) s e ≡ 0 → NodeFine (s .nodes) (nodeOf e)
-  data-node f = node-fine (R .limits) (s .nodes) e (data-fine f .1)
+  pub data-fault : (s .nodes ≡ 0 → ⊥) → (fault : ℕ) → fault ≡ dataFault (R .limits) s e → (fault ≡ 0 → ⊥)
+      → (seen : List ℕ) (C : Columns) → Answers R s seen C (Data e) (s .at) (refusing fault s) seen C
+  data-fault h fault f z seen C awaiting k = absurd (h (k .stands .0))
+  data-fault h fault f z seen C (begun d es) k = on (leb (d .rows) (length es)) refl
+    where
+      same : fault ≡ orElse (tooMany (d .rows) (length es)) (entryFault (R .limits) (d .nodes) e)
+      same = rw (← k .stands .rows-are, ← k .stands .count-is, ← k .stands .nodes-are) f
 
-  module _ (h : s .begun ≡ true) where
-    pub data-fault : (seen : List ℕ) (p : Progress) (fault : ℕ) → s ≡ stateOf p → fault ≡ dataFault (R .limits) s e → (fault ≡ 0 → ⊥)
-        → Follows (R .limits .nodes) (Stop fault) seen (step R p (Data e))
-    data-fault seen awaiting fault q f z = absurd (not-both (rw q at h))
-    data-fault seen (begun d es) fault q f z = on (leb (d .rows) (length es)) refl
-      where
-        same : fault ≡ dataFault (R .limits) (stateOf (begun d es)) e
-        same = f ∙ ap (λ (t : State). dataFault (R .limits) t e) q
+      on : (b : Bool) → leb (d .rows) (length es) ≡ b → Follows R (s .at) (refusing fault s) seen C (step R (begun d es) (Data e))
+      on true t = rw t (same ∙ rw t (else-first 7 (entryFault (R .limits) (d .nodes) e) (λ o. omega arith)), z)
+      on false t =
+          let g : fault ≡ entryFault (R .limits) (d .nodes) e = same ∙ rw t (else-later 0 (entryFault (R .limits) (d .nodes) e) refl) in
+          rw (t, ← g, ne-eqb fault 0 z) (refl, z)
 
-        on : (b : Bool) → leb (d .rows) (length es) ≡ b → Follows (R .limits .nodes) (Stop fault) seen (step R (begun d es) (Data e))
-        on true t = rw t (same ∙ rw t (else-first 7 (entryFault (R .limits) (d .nodes) e) (λ o. omega arith)))
-        on false t =
-            let g : fault ≡ entryFault (R .limits) (d .nodes) e = same ∙ rw t (else-later 0 (entryFault (R .limits) (d .nodes) e) refl) in
-            rw (t, ← g, ne-eqb fault 0 z) refl
+  -- an entry without fault, where the marks and the columns have room for it
+  module _ (seen : List ℕ) (C : Columns) (ready : Ready R (s .nodes) (s .rows) seen C) (f : dataFault (R .limits) s e ≡ 0) where
+    pub data-fits : Fitting e (s .count) C
+    data-fits =
+        let a = data-fine f in
+        let n = node-fine (R .limits) (s .nodes) e (a .1) in
+        record {
+          low = n .low;
+          high = omega (arith, ready .few);
+          small = small (R .limits) (s .nodes) e (ready .limits) (ready .few) (a .1);
+          few = omega (arith, ready .room, most-rows (R .kind));
+          nodes = omega (arith, ready .room, ready .wide .nodes);
+          seconds = omega (arith, ready .room, ready .wide .seconds);
+          thirds = omega (arith, ready .room, ready .wide .thirds);
+        }
 
-    module _ (f : dataFault (R .limits) s e ≡ 0) where
-      l : s .count < s .rows
-      l = data-fine f .0
+    -- what the code asked of the marks
+    module _ (h : s .nodes ≡ 0 → ⊥) (node : ℕ) (node-is : node ≡ nodeOf e) (twice : Bool) (twice-is : twice ≡ onlyOnce e (isMarked seen (node - 1))) where
+      again : (es : List Entry) → Tracks seen es → repeated e es ≡ twice
+      again es tr =
+          repeated-is e es ∙ ap (onlyOnce e) (sym (tracked seen es tr (nodeOf e) (data-fits .low) (omega (arith, data-fits .high, ready .marks))))
+          ∙ ap (λ (v : ℕ). onlyOnce e (isMarked seen (v - 1))) (sym node-is) ∙ sym twice-is
 
-      z : entryFault (R .limits) (s .nodes) e ≡ 0
-      z = data-fine f .1
+      few : (d : Counts) (es : List Entry) → Counted R (s .nodes) (s .rows) (s .count) d es → leb (d .rows) (length es) ≡ false
+      few d es q = lt-leb (d .rows) (length es) (omega (arith, data-fine f .0, q .rows-are, q .count-is))
 
-      here : (d : Counts) (es : List Entry) → s ≡ stateOf (begun d es) → entryFault (R .limits) (d .nodes) e ≡ 0
-      here d es q = ap (λ (t : State). entryFault (R .limits) (t .nodes) e) (sym q) ∙ z
+      fine : (d : Counts) (es : List Entry) → Counted R (s .nodes) (s .rows) (s .count) d es → entryFault (R .limits) (d .nodes) e ≡ 0
+      fine d es q = rw (← q .nodes-are) (data-fine f .1)
 
-      -- what the code asked of the marks
-      module _ (seen : List ℕ) (wide : s .nodes ≤ 32 * length seen) (node : ℕ) (node-is : node ≡ nodeOf e) (twice : Bool) (twice-is : twice ≡ onlyOnce e (isMarked seen (node - 1))) where
-        low : 1 ≤ nodeOf e
-        low = node-fine (R .limits) (s .nodes) e z .low
+      pub data-twice : twice ≡ true → Answers R s seen C (Data e) (s .at) (refusing 8 s) seen C
+      data-twice t awaiting k = absurd (h (k .stands .0))
+      data-twice t (begun d es) k = rw (few d es (k .stands), fine d es (k .stands), again es (k .tracks) ∙ t) (refl, λ o. omega arith)
 
-        high : nodeOf e ≤ 32 * length seen
-        high = omega (arith, node-fine (R .limits) (s .nodes) e z .high)
-
-        again : (es : List Entry) → Tracks seen es → repeated e es ≡ twice
-        again es tr =
-            repeated-is e es ∙ ap (onlyOnce e) (sym (tracked seen es tr (nodeOf e) low high)) ∙ ap (λ (v : ℕ). onlyOnce e (isMarked seen (v - 1))) (sym node-is) ∙ sym twice-is
-
-        pub data-twice : (p : Progress) → Keeps (R .limits .nodes) s seen p → twice ≡ true → Follows (R .limits .nodes) (Stop 8) seen (step R p (Data e))
-        data-twice awaiting k t = absurd (not-both (rw (k .state) at h))
-        data-twice (begun d es) k t = rw (lt-leb (d .rows) (length es) (rw (k .state) at l), here d es (k .state), again es (k .tracks) ∙ t) refl
-
-        pub data-on : (seen′ : List ℕ) (p : Progress) → Keeps (R .limits .nodes) s seen p → twice ≡ false → Added seen (node - 1) seen′
-            → Follows (R .limits .nodes) (On (record { begun = true; nodes = s .nodes; rows = s .rows; count = s .count + 1 })) seen′ (step R p (Data e))
-        data-on seen′ awaiting k t a = absurd (not-both (rw (k .state) at h))
-        data-on seen′ (begun d es) k t a =
-            rw (lt-leb (d .rows) (length es) (rw (k .state) at l), here d es (k .state), again es (k .tracks) ∙ t) (record {
-              state =
-                  ap (λ (t : State). record { begun = true; nodes = t .nodes; rows = t .rows; count = t .count + 1 }) (k .state)
-                  ∙ ap (λ (n : ℕ). record { begun = true; nodes = d .nodes; rows = d .rows; count = n }) (sym (length-append es (e ∷ [])));
-              tracks = track-on seen es (k .tracks) seen′ e low (subst (λ (v : ℕ). Added seen (v - 1) seen′) node-is a);
-              few = k .few;
-            })
+      pub data-on : twice ≡ false → (seen′ : List ℕ) → Added seen (node - 1) seen′ → (second third : ℤ) → second ≡ secondOf e → third ≡ thirdOf e
+          → Answers R s seen C (Data e) (s .at) (record { number = 0; state = record { at = s .at; nodes = s .nodes; rows = s .rows; count = s .count + 1 } })
+          seen′ (columns (set (C .nodes) (s .count) node) (set (C .seconds) (s .count) second) (set (C .thirds) (s .count) third))
+      data-on t seen′ a second third b c awaiting k = absurd (h (k .stands .0))
+      data-on t seen′ a second third b c (begun d es) k =
+          rw (few d es (k .stands), fine d es (k .stands), again es (k .tracks) ∙ t) (record {
+            number-is = refl;
+            at-is = refl;
+            keeps = record {
+              stands = record {
+                nodes-are = k .stands .nodes-are;
+                rows-are = k .stands .rows-are;
+                count-is = ap (λ (n : ℕ). n + 1) (k .stands .count-is) ∙ sym (length-append es (e ∷ []));
+                fine = k .stands .fine;
+              };
+              tracks = track-on seen es (k .tracks) seen′ e (data-fits .low) (subst (λ (v : ℕ). Added seen (v - 1) seen′) node-is a);
+              rows-are = rows-on C es e (s .count) node second third (k .rows-are) (k .stands .count-is) node-is b c (data-fits .nodes) (data-fits .seconds) (data-fits .thirds);
+            };
+          })
 
 -- ---- the end
 
-module _ (s : State) where
-  pub end-none : (p : Progress) → s ≡ stateOf p → s .begun ≡ false → Refused 3 0 ≡ answered (finish p)
+module _ (R : Rules) (s : State) where
+  pub end-none : (p : Progress) → Stands R (s .nodes) (s .rows) (s .count) p → s .nodes ≡ 0 → Refused 3 0 ≡ answered (finish p)
   end-none awaiting q h = refl
-  end-none (begun d es) q h = absurd (not-both (sym (rw q at h)))
+  end-none (begun d es) q h = absurd (has-nodes R (s .nodes) (s .rows) (s .count) d es q h)
 
-  module _ (h : s .begun ≡ true) where
-    pub end-full : (p : Progress) → s ≡ stateOf p → s .count ≡ s .rows → Accepted (s .nodes) (s .rows) ≡ answered (finish p)
-    end-full awaiting q e = absurd (not-both (rw q at h))
-    end-full (begun d es) q e = rw (eq-eqb (length es) (d .rows) (rw q at e)) (ap (λ (t : State). Accepted (t .nodes) (t .rows)) q)
+  module _ (h : s .nodes ≡ 0 → ⊥) where
+    pub end-full : (p : Progress) → Stands R (s .nodes) (s .rows) (s .count) p → s .count ≡ s .rows → Accepted (s .nodes) (s .rows) ≡ answered (finish p)
+    end-full awaiting q e = absurd (h (q .0))
+    end-full (begun d es) q e =
+        rw (eq-eqb (length es) (d .rows) (sym (q .count-is) ∙ e ∙ q .rows-are)) (ap (λ (n : ℕ). Accepted n (s .rows)) (q .nodes-are) ∙ ap (Accepted (d .nodes)) (q .rows-are))
 
-    pub end-short : (p : Progress) → s ≡ stateOf p → (s .count ≡ s .rows → ⊥) → Refused 7 0 ≡ answered (finish p)
-    end-short awaiting q n = absurd (not-both (rw q at h))
-    end-short (begun d es) q n = rw (ne-eqb (length es) (d .rows) (rw q at n)) refl
+    pub end-short : (p : Progress) → Stands R (s .nodes) (s .rows) (s .count) p → (s .count ≡ s .rows → ⊥) → Refused 7 0 ≡ answered (finish p)
+    end-short awaiting q n = absurd (h (q .0))
+    end-short (begun d es) q n = rw (ne-eqb (length es) (d .rows) (λ e. n (q .count-is ∙ e ∙ sym (q .rows-are)))) refl

@@ -1,16 +1,15 @@
 // Judges a text: its size, the N handed in, and its lines in order. The marks of the nodes given are written, and a row for each entry.
 ghost use mathlib.Core.Path.{_≡_};
-ghost use mathlib.Core.List.{List};
-ghost use Prim.Native.Nat.{ℕ, _*_, _≤_};
+ghost use Prim.Native.Nat.{_≤_};
 ghost use lib.ListN.{length};
 ghost use lib.IntN.{natAbs};
 ghost use Rattle.meaning.specs.Limits.{base};
-ghost use Rattle.meaning.specs.Files.{Progress, within as isWithin, isCoordinate, mostRows, agrees as isAgreed, countsFault, entryFault, nodeOf, step, readFrom, handedIn, reading, answered, finish};
+ghost use Rattle.meaning.specs.Files.{awaiting, within as isWithin, isCoordinate, mostRows, agrees as isAgreed, countsFault, entryFault, nodeOf, readFrom, handedIn, reading, answered};
 ghost use Rattle.meaning.specs.Text.{lines};
 ghost use Rattle.meaning.specs.Checks.{orElse};
 ghost use Rattle.reading.specs.Said.{saidAt};
-ghost use Rattle.reading.specs.Rows.{columns, Wide, RowsRead};
-ghost use Rattle.reading.specs.Follows.{stateOf, movedTo, onlyOnce, tooMany, dataFault, Keeps, Follows};
+ghost use Rattle.reading.specs.Rows.{columns, Wide, secondOf, thirdOf, RowsRead};
+ghost use Rattle.reading.specs.Follows.{movedTo, onlyOnce, tooMany, dataFault, Small, Ready, Finishes, Answers, AnswersProblem, AnswersNext};
 use meaning::COUNT_OUTSIDE;
 use meaning::Counts;
 use meaning::DATA_MISCOUNTED;
@@ -189,7 +188,9 @@ fn moved(st: State, at: usize) -> State
 }
 
 // A problem line.
-fn begun(rules: Rules, st: State, c: Counts) -> Step {
+fn begun(rules: Rules, st: State, c: Counts) -> Step
+    ensures { λ r. ⌜ AnswersProblem rules st c r ⌝ }
+{
     if st.nodes != 0 {
         return Step {
             number: PROBLEM_MISPLACED,
@@ -233,7 +234,10 @@ fn data_fault(limits: Limits, st: State, e: Entry) -> usize
 }
 
 // What a row has beside its node: head and weight, or X and Y.
-fn second_of(e: Entry) -> i32 {
+fn second_of(e: Entry) -> i32
+    requires { ⌜ Small e ⌝ }
+    ensures { λ r. ⌜ r ≡ secondOf e ⌝ }
+{
     match e {
         Entry::Arc { head, .. } => head as i32,
         Entry::Point { x, .. } => x,
@@ -241,7 +245,10 @@ fn second_of(e: Entry) -> i32 {
     }
 }
 
-fn third_of(e: Entry) -> i32 {
+fn third_of(e: Entry) -> i32
+    requires { ⌜ Small e ⌝ }
+    ensures { λ r. ⌜ r ≡ thirdOf e ⌝ }
+{
     match e {
         Entry::Arc { weight, .. } => weight as i32,
         Entry::Point { y, .. } => y,
@@ -258,7 +265,10 @@ fn added(
     seconds: &mut [i32],
     thirds: &mut [i32],
     e: Entry,
-) -> Step {
+) -> Step
+    requires { ⌜ Ready rules (st .nodes) (st .rows) (now seen) (columns (now nodes) (now seconds) (now thirds)) ⌝ }
+    ensures { λ r. ⌜ Answers rules st (now (seen .entry)) (columns (now (nodes .entry)) (now (seconds .entry)) (now (thirds .entry))) (Line.Data e) (st .at) r (now (seen .exit)) (columns (now (nodes .exit)) (now (seconds .exit)) (now (thirds .exit))) ⌝ }
+{
     if st.nodes == 0 {
         return Step {
             number: PROBLEM_MISPLACED,
@@ -303,7 +313,10 @@ fn advanced(
     seconds: &mut [i32],
     thirds: &mut [i32],
     line: Line,
-) -> Step {
+) -> Step
+    requires { ⌜ Ready rules (st .nodes) (st .rows) (now seen) (columns (now nodes) (now seconds) (now thirds)) ⌝ }
+    ensures { λ r. ⌜ Answers rules st (now (seen .entry)) (columns (now (nodes .entry)) (now (seconds .entry)) (now (thirds .entry))) line (st .at) r (now (seen .exit)) (columns (now (nodes .exit)) (now (seconds .exit)) (now (thirds .exit))) ⌝ }
+{
     match line {
         Line::Nothing => Step {
             number: 0,
@@ -320,7 +333,7 @@ fn advanced(
 
 // At the end of the text: 3, then 7.
 fn finished(st: State) -> Read
-    ensures { λ r. ⌜ ((p : Progress) → st ≡ stateOf (st .at) p → r ≡ answered (finish p)) ⌝ }
+    ensures { λ r. ⌜ Finishes st r ⌝ }
 {
     if st.nodes == 0 {
         return Read::Refused {
@@ -378,7 +391,10 @@ fn any_line(
     nodes: &mut [u16],
     seconds: &mut [i32],
     thirds: &mut [i32],
-) -> Step {
+) -> Step
+    requires { ⌜ Ready rules (st .nodes) (st .rows) (now seen) (columns (now nodes) (now seconds) (now thirds)) ⌝ }
+    ensures { λ r. ⌜ AnswersNext rules (now (text .entry)) st (now (seen .entry)) (columns (now (nodes .entry)) (now (seconds .entry)) (now (thirds .entry))) r (now (seen .exit)) (columns (now (nodes .exit)) (now (seconds .exit)) (now (thirds .exit))) ⌝ }
+{
     let kind = rules.kind;
     let at = st.at;
     let said = said_at(kind, rules.given, text, at);
@@ -403,7 +419,12 @@ fn arc_line(
     nodes: &mut [u16],
     seconds: &mut [i32],
     thirds: &mut [i32],
-) -> Step {
+) -> Step
+    requires { ⌜ st .at ≤ length (now text) ⌝ }
+    requires { ⌜ rules .kind ≡ Kind.Graph ⌝ }
+    requires { ⌜ Ready rules (st .nodes) (st .rows) (now seen) (columns (now nodes) (now seconds) (now thirds)) ⌝ }
+    ensures { λ r. ⌜ AnswersNext rules (now (text .entry)) st (now (seen .entry)) (columns (now (nodes .entry)) (now (seconds .entry)) (now (thirds .entry))) r (now (seen .exit)) (columns (now (nodes .exit)) (now (seconds .exit)) (now (thirds .exit))) ⌝ }
+{
     let row = grammar::arc_at(text, st.at);
     if row.next == 0 {
         return any_line(rules, st, text, seen, nodes, seconds, thirds);
@@ -425,7 +446,12 @@ fn point_line(
     nodes: &mut [u16],
     seconds: &mut [i32],
     thirds: &mut [i32],
-) -> Step {
+) -> Step
+    requires { ⌜ st .at ≤ length (now text) ⌝ }
+    requires { ⌜ rules .kind ≡ Kind.Coordinates ⌝ }
+    requires { ⌜ Ready rules (st .nodes) (st .rows) (now seen) (columns (now nodes) (now seconds) (now thirds)) ⌝ }
+    ensures { λ r. ⌜ AnswersNext rules (now (text .entry)) st (now (seen .entry)) (columns (now (nodes .entry)) (now (seconds .entry)) (now (thirds .entry))) r (now (seen .exit)) (columns (now (nodes .exit)) (now (seconds .exit)) (now (thirds .exit))) ⌝ }
+{
     let row = grammar::point_at(text, st.at);
     if row.next == 0 {
         return any_line(rules, st, text, seen, nodes, seconds, thirds);
@@ -447,7 +473,12 @@ fn site_line(
     nodes: &mut [u16],
     seconds: &mut [i32],
     thirds: &mut [i32],
-) -> Step {
+) -> Step
+    requires { ⌜ st .at ≤ length (now text) ⌝ }
+    requires { ⌜ rules .kind ≡ Kind.Sites ⌝ }
+    requires { ⌜ Ready rules (st .nodes) (st .rows) (now seen) (columns (now nodes) (now seconds) (now thirds)) ⌝ }
+    ensures { λ r. ⌜ AnswersNext rules (now (text .entry)) st (now (seen .entry)) (columns (now (nodes .entry)) (now (seconds .entry)) (now (thirds .entry))) r (now (seen .exit)) (columns (now (nodes .exit)) (now (seconds .exit)) (now (thirds .exit))) ⌝ }
+{
     let row = grammar::site_at(text, st.at);
     if row.next == 0 {
         return any_line(rules, st, text, seen, nodes, seconds, thirds);
@@ -465,7 +496,11 @@ fn next_line(
     nodes: &mut [u16],
     seconds: &mut [i32],
     thirds: &mut [i32],
-) -> Step {
+) -> Step
+    requires { ⌜ st .at ≤ length (now text) ⌝ }
+    requires { ⌜ Ready rules (st .nodes) (st .rows) (now seen) (columns (now nodes) (now seconds) (now thirds)) ⌝ }
+    ensures { λ r. ⌜ AnswersNext rules (now (text .entry)) st (now (seen .entry)) (columns (now (nodes .entry)) (now (seconds .entry)) (now (thirds .entry))) r (now (seen .exit)) (columns (now (nodes .exit)) (now (seconds .exit)) (now (thirds .exit))) ⌝ }
+{
     let kind = rules.kind;
     match kind {
         Kind::Graph => arc_line(rules, st, text, seen, nodes, seconds, thirds),
@@ -481,7 +516,12 @@ fn judge(
     nodes: &mut [u16],
     seconds: &mut [i32],
     thirds: &mut [i32],
-) -> Read {
+) -> Read
+    requires { ⌜ rules .limits ≡ base ⌝ }
+    requires { ⌜ Wide (rules .kind) (columns (now nodes) (now seconds) (now thirds)) ⌝ }
+    ensures { λ r. ⌜ RowsRead (readFrom rules (lines (now (text .entry))) awaiting 0) (columns (now (nodes .exit)) (now (seconds .exit)) (now (thirds .exit))) ⌝ }
+    ensures { λ r. ⌜ r ≡ answered (readFrom rules (lines (now (text .entry))) awaiting 0) ⌝ }
+{
     let mut seen = [0u32; 32];
     let mut st = State {
         at: 0,

@@ -1,5 +1,6 @@
-use borrow.Author.Needs.{needs}
+use native.Mathlib.Omega.{arith}
 use mathlib.Core.Path.{refl}
+use borrow.Author.Needs.{needs}
 use Rattle.reading.proofs.advanced.Statement.{statement}
 use Rattle.reading.proofs.advanced.Tie as tie
 
@@ -22,19 +23,30 @@ enum-told-2 : tie.Need-enum-told-2
 enum-told-2 c = search needs
 
 returns : tie.Need-returns
-returns c = λ p k. rw (c .enum-told .given .1) k
+returns c = λ p k. rw (c .enum-told .given .1) (record { number-is = refl; at-is = refl; keeps = k })
 
 returns-2 : tie.Need-returns-2
-returns-2 c = λ p k. rw (c .before .before .line .given .1) (c .begun .ensures _ p k)
+returns-2 c = λ p k. rw (c .before .before .line .given .1) (c .begun .ensures _ _ p k)
 
 same-length : tie.Need-same-length
 same-length c = search needs
 
+same-length-2 : tie.Need-same-length-2
+same-length-2 c = search needs
+
+same-length-3 : tie.Need-same-length-3
+same-length-3 c = search needs
+
+same-length-4 : tie.Need-same-length-4
+same-length-4 c = search needs
+
 returns-3 : tie.Need-returns-3
-returns-3 c = λ p k. rw (c .before .before .before .before .before .line2 .given .1) (c .before .before .added .ensures p k)
+returns-3 c =
+    let added = c .before .before .before .before .before .before in
+    λ p k. rw (added .before .before .before .before .before .before .line2 .given .1) (added .added .ensures p k)
 
 returns-4 : tie.Need-returns-4
-returns-4 c = λ p k. rw (c .enum-told2 .given .1) refl
+returns-4 c = λ p k. rw (c .enum-told2 .given .1) (refl, λ o. omega arith)
 
 pub advanced-spec : {M : Type 1} → statement M
 advanced-spec =
@@ -49,5 +61,8 @@ advanced-spec =
     returns
     returns-2
     same-length
+    same-length-2
+    same-length-3
+    same-length-4
     returns-3
     returns-4)

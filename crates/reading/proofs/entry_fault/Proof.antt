@@ -1,5 +1,6 @@
-use Rattle.reading.proofs.Sizes.{held-both}
-use mathlib.Core.Path.{sym, _∙_}
+use Rattle.meaning.specs.Files.{entryFault}
+use Rattle.reading.proofs.Sizes.{held-point}
+use mathlib.Core.Path.{ap, sym, _∙_}
 use borrow.Author.Needs.{needs}
 use Rattle.reading.proofs.entry_fault.Statement.{statement}
 use Rattle.reading.proofs.entry_fault.Tie as tie
@@ -29,7 +30,7 @@ returns-2 : tie.Need-returns-2
 returns-2 c =
     let e2 = c .before .before in
     let start = e2 .before .before in
-    rw (e2 .e2 .given .1) (c .point-fault .ensures ∙ held-both (start .args .limits) (start .args .n) (e2 .e2 .given .0 .0) (e2 .e2 .given .0 .1 .0) (e2 .e2 .given .0 .1 .1 .0) (record { sfits = c .before .known-told2 .given .1 .0 .1 }) (record { sfits = c .before .known-told2 .given .1 .1 .0 .1 }))
+    rw (e2 .e2 .given .1) (c .point-fault .ensures ∙ ap (entryFault (start .args .limits) (start .args .n)) (held-point (e2 .e2 .given .0 .0) (e2 .e2 .given .0 .1 .0) (e2 .e2 .given .0 .1 .1 .0) (record { sfits = c .before .known-told2 .given .1 .0 .1 }) (record { sfits = c .before .known-told2 .given .1 .1 .0 .1 })))
 
 returns-3 : tie.Need-returns-3
 returns-3 c = rw (c .before .before .before .e3 .given .1, sym (c .before .within .ensures) ∙ c .if1 .taken)

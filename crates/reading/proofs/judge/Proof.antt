@@ -1,77 +1,104 @@
-use Rattle.reading.specs.declared.Said.{Said}
-use Rattle.reading.proofs.Lines.{Judged, judged-start, judged-stop, judged-on, judged-end, next-low}
+use Rattle.reading.specs.Rows.{Columns, columns}
+use Rattle.reading.proofs.Lines.{SameLengths, Judged, judged-start, judged-ready, judged-stop, judged-up, judged-on, judged-end, judged-rows}
 use borrow.Author.Needs.{needs}
 use native.Mathlib.Omega.{arith}
 use Prim.Native.Nat.{_+_, _-_}
-use mathlib.Core.Path.{ap, sym, _∙_}
+use mathlib.Core.Path.{refl, sym, _∙_}
 use lib.ListN.{length}
 use Rattle.reading.proofs.judge.Statement.{statement}
 use Rattle.reading.proofs.judge.Tie as tie
 
 abbrev Inv-loop : tie.InvT-loop
-Inv-loop rules text kind given seen₀ st₀ at₀ place₀ seen st at place = Judged rules text seen st at place
+Inv-loop rules text nodes₀ seconds₀ thirds₀ seen₀ st₀ place₀ nodes seconds thirds seen st place =
+    Judged rules text (columns nodes₀ seconds₀ thirds₀) seen (columns nodes seconds thirds) st place
 
 abbrev μ-loop : tie.MeasureT-loop
-μ-loop rules text kind given seen₀ st₀ at₀ place₀ seen st at place = (length text + 1) - at
+μ-loop rules text nodes₀ seconds₀ thirds₀ seen₀ st₀ place₀ nodes seconds thirds seen st place = (length text + 1) - st .at
+
+-- the columns at entry, and after a line: they keep their lengths
+abbrev lent : tie.After-thirds Inv-loop μ-loop → Columns
+lent c = let args = c .before .before .before .before .before .before .before .before .before .before .before .before .before .before .before .args in columns (args .nodes .now) (args .seconds .now) (args .thirds .now)
+
+abbrev left : tie.After-thirds Inv-loop μ-loop → Columns
+left c = let last = c .before .before .before .before .before .next-line .last in columns (last .1 .1 .1 .1 .0) (last .1 .1 .1 .1 .1 .0) (last .1 .1 .1 .1 .1 .1 .0)
+
+lengths : (c : tie.After-thirds Inv-loop μ-loop) → SameLengths (lent c) (left c)
+lengths c =
+    let next-line = c .before .before .before .before .before in
+    let kept = next-line .next-line .kept in
+    let lengths = next-line .before .before .before .before .before .before .before .loop .inv .lengths in
+    record { nodes = kept .1 .1 .1 .1 .0 ∙ lengths .nodes; seconds = kept .1 .1 .1 .1 .1 .0 ∙ lengths .seconds; thirds = kept .1 .1 .1 .1 .1 .1 .0 ∙ lengths .thirds }
 
 loop-holds : tie.Need-loop-holds Inv-loop μ-loop
-loop-holds c = judged-start _ _
+loop-holds c = judged-start _ _ _
 
-said-at-requires : tie.Need-said-at-requires Inv-loop μ-loop
-said-at-requires c κs = search needs
+slice-aggregate-next-line : tie.Need-slice-aggregate-next-line Inv-loop μ-loop
+slice-aggregate-next-line c = sym (c .before .before .before .loop .inv .size)
+
+next-line-requires : tie.Need-next-line-requires Inv-loop μ-loop
+next-line-requires c κs =
+    let if1 = c .before .before .before .before in
+    let loop = if1 .before .before in
+    let start = loop .before .before .before in
+    (omega (arith, if1 .if1 .taken), judged-ready (start .args .rules) (start .args .text .now) _ _ _ (loop .loop .st) (loop .loop .place) (loop .loop .inv) (start .pre .0) (start .pre .1))
 
 add-place : tie.Need-add-place Inv-loop μ-loop
-add-place c = omega (arith, c .before .before .loop .inv)
+add-place c =
+    let if1 = c .before .before .before .before .before .before .before .before .before .before in
+    let loop = if1 .before .before in
+    omega (arith, if1 .if1 .taken, loop .loop .inv .low)
 
-slice-aggregate-advanced : tie.Need-slice-aggregate-advanced Inv-loop μ-loop
-slice-aggregate-advanced c = sym (c .before .before .before .loop .inv .size)
+same-length : tie.Need-same-length Inv-loop μ-loop
+same-length c = lengths (c .before) .nodes
 
-advanced-requires : tie.Need-advanced-requires Inv-loop μ-loop
-advanced-requires c κs =
-    let loop = c .before .before .before in
-    let start = loop .before .before in
-    omega (arith, loop .loop .inv .size, loop .loop .inv .keeps .few, start .pre)
+same-length-2 : tie.Need-same-length-2 Inv-loop μ-loop
+same-length-2 c = lengths (c .before) .seconds
 
-enum-known-next : tie.Need-enum-known-next Inv-loop μ-loop
-enum-known-next c = search needs
-
-enum-known-number : tie.Need-enum-known-number Inv-loop μ-loop
-enum-known-number c = search needs
+same-length-3 : tie.Need-same-length-3 Inv-loop μ-loop
+same-length-3 c = lengths (c .before) .thirds
 
 returns : tie.Need-returns Inv-loop μ-loop
 returns c =
-    let advanced = c .before .before .before .before in
-    let said-at = advanced .before .before in
-    let test = said-at .before in
-    let loop = test .before in
-    let start = loop .before .before in
-    judged-stop (start .args .rules) (start .args .text .now) (loop .loop .seen) (loop .loop .st) (loop .loop .at) (loop .loop .place) (loop .loop .inv) (test .loop-test .taken) (said-at .said-at .result) (said-at .said-at .ensures) _ _ (rw (c .before .number .given .1) at (advanced .advanced .ensures (loop .loop .inv .progress) (loop .loop .inv .keeps)))
+    let next-line = c .before .before .before .before .before .before in
+    let if1 = next-line .before .before .before .before .before in
+    let loop = if1 .before .before in
+    let start = loop .before .before .before in
+    rw (judged-stop (start .args .rules) (start .args .text .now) _ _ _ (loop .loop .st) (loop .loop .place) (loop .loop .inv) (if1 .if1 .taken) (next-line .next-line .result) _ (left (c .before)) (next-line .next-line .ensures) (c .if2 .taken)) (tt, refl)
 
 loop-less : tie.Need-loop-less Inv-loop μ-loop
 loop-less c =
-    let said-at = c .before .before .before .before .before .before in
-    let test = said-at .before in
-    let loop = test .before in
-    let start = loop .before .before in
-    omega (arith, ap (λ (s : Said). s .next) (said-at .said-at .ensures), next-low (start .args .rules .kind) (start .args .rules .given) (start .args .text .now) (loop .loop .at) (test .loop-test .taken), loop .loop .inv .high)
+    let next-line = c .before .before .before .before .before .before .before in
+    let if1 = next-line .before .before .before .before .before in
+    let loop = if1 .before .before in
+    let start = loop .before .before .before in
+    omega (arith, judged-up (start .args .rules) (start .args .text .now) _ _ _ (loop .loop .st) (loop .loop .place) (loop .loop .inv) (if1 .if1 .taken) (next-line .next-line .result) _ (left (c .before .before)) (next-line .next-line .ensures) (c .before .if2 .left), if1 .if1 .taken)
 
 loop-again : tie.Need-loop-again Inv-loop μ-loop
 loop-again c =
-    let advanced = c .before .before .before .before in
-    let said-at = advanced .before .before in
-    let test = said-at .before in
-    let loop = test .before in
-    let start = loop .before .before in
-    judged-on (start .args .rules) (start .args .text .now) (loop .loop .seen) (loop .loop .st) (loop .loop .at) (loop .loop .place) (loop .loop .inv) (test .loop-test .taken) (said-at .said-at .result) (said-at .said-at .ensures) _ _ (advanced .advanced .kept .1 .1 .0 ∙ loop .loop .inv .size) (rw (c .before .next .given .1) at (advanced .advanced .ensures (loop .loop .inv .progress) (loop .loop .inv .keeps)))
+    let next-line = c .before .before .before .before .before .before .before in
+    let if1 = next-line .before .before .before .before .before in
+    let loop = if1 .before .before in
+    let start = loop .before .before .before in
+    judged-on (start .args .rules) (start .args .text .now) _ _ _ (loop .loop .st) (loop .loop .place) (loop .loop .inv) (if1 .if1 .taken) (next-line .next-line .result) _ (left (c .before .before)) (next-line .next-line .ensures) (c .before .if2 .left) (next-line .next-line .kept .1 .1 .1 .0 ∙ loop .loop .inv .size) (lengths (c .before .before))
 
 finished-requires : tie.Need-finished-requires Inv-loop μ-loop
 finished-requires c κs = search needs
 
+same-length-4 : tie.Need-same-length-4 Inv-loop μ-loop
+same-length-4 c = c .before .before .before .loop .inv .lengths .nodes
+
+same-length-5 : tie.Need-same-length-5 Inv-loop μ-loop
+same-length-5 c = c .before .before .before .loop .inv .lengths .seconds
+
+same-length-6 : tie.Need-same-length-6 Inv-loop μ-loop
+same-length-6 c = c .before .before .before .loop .inv .lengths .thirds
+
 returns-2 : tie.Need-returns-2 Inv-loop μ-loop
 returns-2 c =
-    let loop = c .before .before in
-    let start = loop .before .before in
-    c .finished .ensures (loop .loop .inv .progress) (loop .loop .inv .keeps .state) ∙ judged-end (start .args .rules) (start .args .text .now) (loop .loop .seen) (loop .loop .st) (loop .loop .at) (loop .loop .place) (loop .loop .inv) (c .before .loop-test .left)
+    let loop = c .before .before .before in
+    let start = loop .before .before .before in
+    let inv = loop .loop .inv in
+    rw (judged-end (start .args .rules) (start .args .text .now) _ _ _ (loop .loop .st) (loop .loop .place) inv (c .before .if1 .left)) (judged-rows (start .args .rules) (start .args .text .now) _ _ _ (loop .loop .st) (loop .loop .place) inv, c .finished .ensures (start .args .rules) (inv .progress) (inv .keeps .stands))
 
 pub judge-spec : {M : Type 1} → statement M
 judge-spec =
@@ -80,14 +107,17 @@ judge-spec =
     Inv-loop
     μ-loop
     loop-holds
-    said-at-requires
+    slice-aggregate-next-line
+    next-line-requires
     add-place
-    slice-aggregate-advanced
-    advanced-requires
-    enum-known-next
-    enum-known-number
+    same-length
+    same-length-2
+    same-length-3
     returns
     loop-less
     loop-again
     finished-requires
+    same-length-4
+    same-length-5
+    same-length-6
     returns-2)
