@@ -1,77 +1,68 @@
--- What the second pass writes, line by line.
-use Prim.Native.Nat.{ℕ, _+_, _-_, _≤_, _<_}
+-- Rows of three columns, stored one by one in the lent tables.
+use Prim.Native.Nat.{ℕ, zero, suc, _-_, _≤_, _<_}
 use mathlib.Core.List.{List}
-use lib.IntN.{ℤ}
-use lib.ListN.{length, set}
-use Rattle.meaning.specs.Lists.{All}
-use Rattle.meaning.specs.Files.{nodeOf, headOf, weightOf}
+use lib.Dec.{T}
+use lib.IntN.{ℤ, pos, natAbs}
+use lib.ListN.{length, getD, set}
+use lib.Signed.{nonNeg}
 use Rattle.meaning.proofs.Reading.{NodeFine}
-use Rattle.meaning.specs.declared.Entry.{Entry}
-use Rattle.meaning.specs.declared.Line.{Line}
-use Rattle.meaning.specs.declared.Line.the-variants.{Nothing, Problem, Data, Malformed}
+use Rattle.reading.specs.Rows.{Columns}
 
--- what is asked of a line's entry, if it has one
-abbrev pub OfData : (Entry → Type 0) → Line → Type 0
-OfData P Nothing = Unit {0}
-OfData P (Problem c) = Unit {0}
-OfData P (Data e) = P e
-OfData P Malformed = Unit {0}
+-- ---- what is stored
 
--- the place of the entry after a line
-abbrev pub nextPlace : Line → ℕ → ℕ
-nextPlace Nothing i = i
-nextPlace (Problem c) i = i
-nextPlace (Data e) i = i + 1
-nextPlace Malformed i = i
+-- a table after that many rows, each row's value at its place
+abbrev pub stored : {A : Type 0} → (ℕ → ℕ) → (ℕ → A) → ℕ → List A → List A
+stored place value zero xs = xs
+stored place value (suc i) xs = set (stored place value i xs) (place i) (value i)
 
--- a table with a line's value at a place, or at its node
-abbrev pub putAt : {A : Type 0} → (Entry → A) → Line → ℕ → List A → List A
-putAt value Nothing i xs = xs
-putAt value (Problem c) i xs = xs
-putAt value (Data e) i xs = set xs i (value e)
-putAt value Malformed i xs = xs
+-- row i's place: entry i, or its node's
+abbrev pub inOrder : ℕ → ℕ
+inOrder i = i
 
-abbrev pub putNode : {A : Type 0} → (Entry → A) → Line → List A → List A
-putNode value Nothing xs = xs
-putNode value (Problem c) xs = xs
-putNode value (Data e) xs = set xs (nodeOf e - 1) (value e)
-putNode value Malformed xs = xs
+abbrev pub atNode : List ℕ → ℕ → ℕ
+atNode nodes i = getD nodes i 0 - 1
 
--- an arc's values, where they can be stored at a place
-pub record ArcFits (i : ℕ) (tails heads weights : List ℕ) (e : Entry) : Type 0 where
-  pub in-tails : i < length tails
-  pub in-heads : i < length heads
-  pub in-weights : i < length weights
-  pub tail : nodeOf e < 65536
-  pub head : headOf e < 65536
-  pub weight : weightOf e < 4294967296
+-- row i's value: of the nodes, of another column, of another column where its numbers are not negative
+abbrev pub nodeIn : List ℕ → ℕ → ℕ
+nodeIn column i = getD column i 0
 
--- a site's node
-pub record SiteFits (i : ℕ) (sites : List ℕ) (e : Entry) : Type 0 where
-  pub in-sites : i < length sites
-  pub node : nodeOf e < 65536
+abbrev pub valueIn : List ℤ → ℕ → ℤ
+valueIn column i = getD column i (pos 0)
 
--- a point's place
-abbrev pub InTable : ℕ → Entry → Type 0
-InTable n e = NodeFine n (nodeOf e)
+abbrev pub sizeIn : List ℤ → ℕ → ℕ
+sizeIn column i = natAbs (getD column i (pos 0))
 
-abbrev pub SmallArc : Entry → Type 0
-SmallArc e = (nodeOf e < 65536) × (headOf e < 65536) × (weightOf e < 4294967296)
+-- ---- what rows have to be
 
-abbrev pub SmallSite : Entry → Type 0
-SmallSite e = nodeOf e < 65536
+-- 0 to n - 1
+abbrev pub Below : ℕ → ℤ → Type 0
+Below n z = T (nonNeg z) × (natAbs z < n)
 
--- the entries that fit three columns, two tables by node, one column
-pub record ArcsFit (es : List Entry) (tails heads weights : List ℕ) : Type 0 where
-  pub small : All SmallArc es
-  pub in-tails : length es ≤ length tails
-  pub in-heads : length es ≤ length heads
-  pub in-weights : length es ≤ length weights
+abbrev pub AllBelow : ℕ → ℕ → List ℤ → Type 0
+AllBelow n rows column = (i : ℕ) → i < rows → Below n (getD column i (pos 0))
 
-pub record PointsFit (es : List Entry) (xs ys : List ℤ) : Type 0 where
-  pub in-xs : All (InTable (length xs)) es
-  pub in-ys : All (InTable (length ys)) es
+abbrev pub AllNodes : ℕ → ℕ → List ℕ → Type 0
+AllNodes n rows column = (i : ℕ) → i < rows → NodeFine n (getD column i 0)
 
-pub record SitesFit (es : List Entry) (sites : List ℕ) : Type 0 where
-  pub small : All SmallSite es
-  pub in-sites : length es ≤ length sites
+pub record HasRows (rows : ℕ) (c : Columns) : Type 0 where
+  pub nodes : rows ≤ length (c .nodes)
+  pub seconds : rows ≤ length (c .seconds)
+  pub thirds : rows ≤ length (c .thirds)
+
+-- rows that fit three tables in order, two by node, one in order
+pub record ArcRows (rows : ℕ) (c : Columns) (tails heads weights : List ℕ) : Type 0 where
+  pub has : HasRows rows c
+  pub small-heads : AllBelow 65536 rows (c .seconds)
+  pub small-weights : AllBelow 4294967296 rows (c .thirds)
+  pub in-tails : rows ≤ length tails
+  pub in-heads : rows ≤ length heads
+  pub in-weights : rows ≤ length weights
+
+pub record PointRows (rows : ℕ) (c : Columns) (xs ys : List ℤ) : Type 0 where
+  pub has : HasRows rows c
+  pub in-xs : AllNodes (length xs) rows (c .nodes)
+  pub in-ys : AllNodes (length ys) rows (c .nodes)
+
+pub record SiteRows (rows : ℕ) (nodes sites : List ℕ) : Type 0 where
+  pub has : rows ≤ length nodes
+  pub in-sites : rows ≤ length sites

@@ -1,18 +1,11 @@
 // The three readers: a text is judged whole, its entries kept as rows, before a table is written.
 ghost use mathlib.Core.Path.{_≡_};
-ghost use mathlib.Core.List.{map};
 ghost use Prim.Native.Nat.{min};
-ghost use lib.ListN.{length};
-ghost use lib.Seq.{sets};
 ghost use Rattle.meaning.specs.Limits.{base};
-ghost use Rattle.meaning.specs.Text.{lines};
-ghost use Rattle.meaning.specs.Files.{nodeOf, headOf, weightOf, xOf, yOf, putAll, GraphRead, CoordinatesRead, SitesRead};
-ghost use Rattle.meaning.specs.declared.Kind.the-variants.{Graph, Coordinates, Sites};
-ghost use Rattle.meaning.proofs.Reading.{entriesOf};
-ghost use Rattle.readers.specs.Writing.{OfData, nextPlace, putAt, putNode, ArcFits, SiteFits, InTable, ArcsFit, PointsFit, SitesFit};
-use meaning::Entry;
+ghost use Rattle.meaning.specs.Files.{GraphRead, CoordinatesRead, SitesRead};
+ghost use Rattle.reading.specs.Rows.{columns};
+ghost use Rattle.readers.specs.Writing.{stored, inOrder, atNode, nodeIn, valueIn, sizeIn, ArcRows, PointRows, SiteRows};
 use meaning::Kind;
-use meaning::Line;
 use meaning::Read;
 
 fn least(a: usize, b: usize) -> usize
@@ -30,7 +23,10 @@ fn write_arcs(
     tails: &mut [u16],
     heads: &mut [u16],
     weights: &mut [u32],
-) {
+)
+    requires { ⌜ ArcRows rows (columns (now nodes) (now seconds) (now thirds)) (now tails) (now heads) (now weights) ⌝ }
+    ensures { λ r. ⌜ (now (tails .exit) ≡ stored inOrder (nodeIn (now (nodes .entry))) rows (now (tails .entry))) × (now (heads .exit) ≡ stored inOrder (sizeIn (now (seconds .entry))) rows (now (heads .entry))) × (now (weights .exit) ≡ stored inOrder (sizeIn (now (thirds .entry))) rows (now (weights .entry))) ⌝ }
+{
     let mut i = 0;
     while i < rows {
         tails[i] = nodes[i];
@@ -48,7 +44,10 @@ fn write_points(
     thirds: &[i32],
     xs: &mut [i32],
     ys: &mut [i32],
-) {
+)
+    requires { ⌜ PointRows rows (columns (now nodes) (now seconds) (now thirds)) (now xs) (now ys) ⌝ }
+    ensures { λ r. ⌜ (now (xs .exit) ≡ stored (atNode (now (nodes .entry))) (valueIn (now (seconds .entry))) rows (now (xs .entry))) × (now (ys .exit) ≡ stored (atNode (now (nodes .entry))) (valueIn (now (thirds .entry))) rows (now (ys .entry))) ⌝ }
+{
     let mut i = 0;
     while i < rows {
         let number = nodes[i] as usize;
@@ -60,7 +59,10 @@ fn write_points(
 }
 
 // The rows of an accepted site text.
-fn write_sites(rows: usize, nodes: &[u16], sites: &mut [u16]) {
+fn write_sites(rows: usize, nodes: &[u16], sites: &mut [u16])
+    requires { ⌜ SiteRows rows (now nodes) (now sites) ⌝ }
+    ensures { λ r. ⌜ now (sites .exit) ≡ stored inOrder (nodeIn (now (nodes .entry))) rows (now (sites .entry)) ⌝ }
+{
     let mut i = 0;
     while i < rows {
         sites[i] = nodes[i];

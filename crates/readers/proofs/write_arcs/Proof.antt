@@ -1,68 +1,106 @@
-use Rattle.meaning.specs.Files.{nodeOf, headOf, weightOf}
-use Rattle.meaning.specs.declared.Kind.the-variants.{Graph}
-use Rattle.reading.specs.declared.Said.{Said}
-use Rattle.reading.proofs.Lines.{next-low}
-use Rattle.readers.proofs.Columns.{ArcsWritten, column-start, column-end, arc-fits, arcs-on}
 use borrow.Author.Needs.{needs}
 use native.Mathlib.Omega.{arith}
-use Prim.Native.Nat.{_+_, _-_}
-use mathlib.Core.Path.{ap}
-use lib.ListN.{length}
+use Prim.Native.Nat.{_-_, _≤_}
+use mathlib.Core.Path.{refl, ap}
+use lib.IntN.{natAbs}
+use Rattle.readers.specs.Writing.{inOrder, nodeIn, valueIn, sizeIn}
+use Rattle.readers.proofs.Rows.{Stored, stored-more, stored-all, held, held-below}
 use Rattle.readers.proofs.write_arcs.Statement.{statement}
 use Rattle.readers.proofs.write_arcs.Tie as tie
 
 abbrev Inv-loop : tie.InvT-loop
-Inv-loop text tails₀ heads₀ weights₀ at₀ i₀ tails heads weights at i = ArcsWritten text tails₀ heads₀ weights₀ tails heads weights at i
+Inv-loop rows nodes seconds thirds tails₀ heads₀ weights₀ i₀ tails heads weights i =
+    (i ≤ rows) × Stored inOrder (nodeIn nodes) tails₀ tails i × Stored inOrder (sizeIn seconds) heads₀ heads i × Stored inOrder (sizeIn thirds) weights₀ weights i
 
 abbrev μ-loop : tie.MeasureT-loop
-μ-loop text tails₀ heads₀ weights₀ at₀ i₀ tails heads weights at i = (length text + 1) - at
+μ-loop rows nodes seconds thirds tails₀ heads₀ weights₀ i₀ tails heads weights i = rows - i
 
 loop-holds : tie.Need-loop-holds Inv-loop μ-loop
-loop-holds c =
-    let start = c .before .before .before .before in
-    record { high = omega arith; small = start .pre .small; tails = column-start nodeOf (start .args .tails .now) _ (start .pre .in-tails); heads = column-start headOf (start .args .heads .now) _ (start .pre .in-heads); weights = column-start weightOf (start .args .weights .now) _ (start .pre .in-weights) }
+loop-holds c = search needs
 
-said-at-requires : tie.Need-said-at-requires Inv-loop μ-loop
-said-at-requires c κs = search needs
+mul-tails : tie.Need-mul-tails Inv-loop μ-loop
+mul-tails c = search needs
 
-put-arc-requires : tie.Need-put-arc-requires Inv-loop μ-loop
-put-arc-requires c κs =
-    let said-at = c .before .before .before in
-    let test = said-at .before in
+shared-slice-read-tails : tie.Need-shared-slice-read-tails Inv-loop μ-loop
+shared-slice-read-tails c = search needs
+
+mul-tails-2 : tie.Need-mul-tails-2 Inv-loop μ-loop
+mul-tails-2 c = search needs
+
+slice-write-tails : tie.Need-slice-write-tails Inv-loop μ-loop
+slice-write-tails c = search needs
+
+mul-heads : tie.Need-mul-heads Inv-loop μ-loop
+mul-heads c = search needs
+
+shared-slice-copy-out-heads : tie.Need-shared-slice-copy-out-heads Inv-loop μ-loop
+shared-slice-copy-out-heads c = search needs
+
+cast-heads : tie.Need-cast-heads Inv-loop μ-loop
+cast-heads c =
+    let test = c .before .before in
     let loop = test .before in
-    let start = loop .before .before .before .before .before in
-    arc-fits (start .args .text .now) (start .args .tails .now) (start .args .heads .now) (start .args .weights .now) (loop .loop .tails) (loop .loop .heads) (loop .loop .weights) (loop .loop .at) (loop .loop .i) (loop .loop .inv) (test .loop-test .taken) (said-at .said-at .result) (said-at .said-at .ensures)
+    let start = loop .before in
+    let b = held-below (valueIn (start .args .seconds .now) (loop .loop .i)) (c .heads .given) 65536 (start .pre .small-heads (loop .loop .i) (test .loop-test .taken)) in
+    (b .0, record { fits = b .1 })
+
+mul-heads-2 : tie.Need-mul-heads-2 Inv-loop μ-loop
+mul-heads-2 c = search needs
+
+slice-write-heads : tie.Need-slice-write-heads Inv-loop μ-loop
+slice-write-heads c = search needs
+
+mul-weights : tie.Need-mul-weights Inv-loop μ-loop
+mul-weights c = search needs
+
+shared-slice-copy-out-weights : tie.Need-shared-slice-copy-out-weights Inv-loop μ-loop
+shared-slice-copy-out-weights c = search needs
+
+cast-weights : tie.Need-cast-weights Inv-loop μ-loop
+cast-weights c =
+    let test = c .before .before .before in
+    let loop = test .before in
+    let start = loop .before in
+    let b = held-below (valueIn (start .args .thirds .now) (loop .loop .i)) (c .weights .given) 4294967296 (start .pre .small-weights (loop .loop .i) (test .loop-test .taken)) in
+    (b .0, record { fits = b .1 })
+
+mul-weights-2 : tie.Need-mul-weights-2 Inv-loop μ-loop
+mul-weights-2 c = search needs
+
+slice-write-weights : tie.Need-slice-write-weights Inv-loop μ-loop
+slice-write-weights c = search needs
+
+add-i : tie.Need-add-i Inv-loop μ-loop
+add-i c = search needs
 
 loop-less : tie.Need-loop-less Inv-loop μ-loop
-loop-less c =
-    let said-at = c .before .before .before .before .before .before .before .before .before .before in
-    let test = said-at .before in
-    let loop = test .before in
-    let start = loop .before .before .before .before .before in
-    omega (arith, ap (λ (s : Said). s .next) (said-at .said-at .ensures), next-low Graph 0 (start .args .text .now) (loop .loop .at) (test .loop-test .taken), loop .loop .inv .high)
+loop-less c = search needs
 
 loop-again : tie.Need-loop-again Inv-loop μ-loop
 loop-again c =
-    let put-arc = c .before .before .before .before .before .before in
-    let said-at = put-arc .before .before .before .before in
-    let test = said-at .before in
+    let test = c .before .before .before in
     let loop = test .before in
-    let start = loop .before .before .before .before .before in
-    arcs-on (start .args .text .now) (start .args .tails .now) (start .args .heads .now) (start .args .weights .now) (loop .loop .tails) (loop .loop .heads) (loop .loop .weights) (loop .loop .at) (loop .loop .i) (loop .loop .inv) (test .loop-test .taken) (said-at .said-at .result) (said-at .said-at .ensures) _ _ _ _ (put-arc .put-arc .ensures .0) (put-arc .put-arc .ensures .1) (put-arc .put-arc .ensures .2) (put-arc .put-arc .ensures .3)
+    let start = loop .before in
+    let inv = loop .loop .inv in
+    let second = held (valueIn (start .args .seconds .now) (loop .loop .i)) (c .before .heads .given) in
+    let third = held (valueIn (start .args .thirds .now) (loop .loop .i)) (c .weights .given) in
+    (omega (arith, test .loop-test .taken), stored-more (inv .1) _ _ refl refl, stored-more (inv .2) _ _ refl (ap natAbs second), stored-more (inv .3) _ _ refl (ap natAbs third))
 
 same-length : tie.Need-same-length Inv-loop μ-loop
-same-length c = c .before .loop .inv .tails .size
+same-length c = search needs
 
 same-length-2 : tie.Need-same-length-2 Inv-loop μ-loop
-same-length-2 c = c .before .loop .inv .heads .size
+same-length-2 c = search needs
 
 same-length-3 : tie.Need-same-length-3 Inv-loop μ-loop
-same-length-3 c = c .before .loop .inv .weights .size
+same-length-3 c = search needs
 
 returns : tie.Need-returns Inv-loop μ-loop
 returns c =
-    let start = c .before .before .before .before .before .before in
-    (column-end nodeOf Graph 0 (start .args .text .now) (start .args .tails .now) (c .before .loop .tails) (c .before .loop .at) (c .before .loop .i) (c .before .loop .inv .tails) (c .loop-test .left), column-end headOf Graph 0 (start .args .text .now) (start .args .heads .now) (c .before .loop .heads) (c .before .loop .at) (c .before .loop .i) (c .before .loop .inv .heads) (c .loop-test .left), column-end weightOf Graph 0 (start .args .text .now) (start .args .weights .now) (c .before .loop .weights) (c .before .loop .at) (c .before .loop .i) (c .before .loop .inv .weights) (c .loop-test .left))
+    let loop = c .before in
+    let inv = loop .loop .inv in
+    let rows = loop .before .args .rows in
+    (stored-all (inv .1) rows (inv .0) (c .loop-test .left), stored-all (inv .2) rows (inv .0) (c .loop-test .left), stored-all (inv .3) rows (inv .0) (c .loop-test .left))
 
 pub write-arcs-spec : {M : Type 1} → statement M
 write-arcs-spec =
@@ -71,8 +109,21 @@ write-arcs-spec =
     Inv-loop
     μ-loop
     loop-holds
-    said-at-requires
-    put-arc-requires
+    mul-tails
+    shared-slice-read-tails
+    mul-tails-2
+    slice-write-tails
+    mul-heads
+    shared-slice-copy-out-heads
+    cast-heads
+    mul-heads-2
+    slice-write-heads
+    mul-weights
+    shared-slice-copy-out-weights
+    cast-weights
+    mul-weights-2
+    slice-write-weights
+    add-i
     loop-less
     loop-again
     same-length
