@@ -62,8 +62,24 @@ fn run(
     ensures { λ r. ⌜ Ran (tables (now (tails .entry)) (now (heads .entry)) (now (weights .entry)) (now (xs .entry)) (now (ys .entry)) (now (sites .entry)) n m s) query k n
         (now (work .entry)) (now (listed .entry)) (now (lengths .entry)) (now (work .exit)) (now (listed .exit)) (now (lengths .exit)) (r .sites) (r .taken) ⌝ }
 {
-    taking::start(xs, ys, sites, n, s, query - 1, work);
-    let grouped = taking::grouped(tails, m);
+    let mut starts = [0u16; 1024];
+    let mut nexts = [0u16; 4096];
+    let mut ax = [0i32; 128];
+    let mut ay = [0i32; 128];
+    let mut tree = [0u64; 2048];
+    taking::link(tails, n, m, &mut starts, &mut nexts);
+    taking::start(
+        xs,
+        ys,
+        sites,
+        n,
+        s,
+        query - 1,
+        &mut ax,
+        &mut ay,
+        work,
+        &mut tree,
+    );
     let mut count = 0;
     let mut taken = 0;
     while taken < n {
@@ -73,7 +89,18 @@ fn run(
         if s <= count {
             break;
         }
-        let Next::Node(u) = taking::choose(xs, ys, sites, n, s, 0 < count, work) else {
+        let Next::Node(u) = taking::choose(
+            xs,
+            ys,
+            sites,
+            n,
+            s,
+            0 < count,
+            &ax,
+            &ay,
+            work,
+            &mut tree,
+        ) else {
             break;
         };
         let site = taking::take(
@@ -86,9 +113,13 @@ fn run(
             n,
             m,
             s,
-            grouped,
+            &starts,
+            &nexts,
             u,
+            &mut ax,
+            &ay,
             work,
+            &mut tree,
         );
         count = list(work, n, u, site, listed, lengths, count);
         taken += 1;
