@@ -18,6 +18,11 @@ openAt n w v = not (eqb (getD w (n + v) 0) 0)
 abbrev pub rankOf : ℕ → List ℕ → ℕ → ℕ
 rankOf n w v = cond (openAt n w v) ((17179869184 - keyAt n w v) * 65536 + (65535 - v)) 0
 
+-- r is the rank of node v
+pub record Ranked (n : ℕ) (w : List ℕ) (v r : ℕ) : Type 0 where
+  pub is : r ≡ rankOf n w v
+  pub near : T (openAt n w v) → keyAt n w v < 17179869184
+
 pub record Tree (n : ℕ) (w t : List ℕ) : Type 0 where
   pub room : n + n ≤ length t
   pub near : (v : ℕ) → v < n → T (openAt n w v) → keyAt n w v < 17179869184

@@ -3,15 +3,14 @@
 ghost use mathlib.Core.Path.{_≡_};
 ghost use Prim.Native.Nat.{_+_, _*_, _≤_, _<_, max};
 ghost use lib.ListN.{length};
-ghost use Rattle.memory.specs.Memory.{keyAt};
-ghost use Rattle.memory.specs.Tree.{Tree, But, rankOf, Topped};
+ghost use Rattle.memory.specs.Tree.{Tree, But, Ranked, Topped};
 use crate::Next;
 use crate::key;
 
 // What a node stands in the tree with: the sooner it goes, the more; 0 where it isn't open.
 fn rank(work: &[u32], n: usize, v: usize) -> u64
     requires { ⌜ (4 * n ≤ length (now work)) × ((v < n) × (n ≤ 1024)) ⌝ }
-    ensures { λ r. ⌜ r ≡ rankOf n (now (work .entry)) v ⌝ }
+    ensures { λ r. ⌜ Ranked n (now (work .entry)) v r ⌝ }
 {
     if work[n + v] == 0 {
         return 0;
@@ -27,7 +26,7 @@ fn larger(a: u64, b: u64) -> u64
 
 // The open node with the least key; among equals the lower number.
 pub fn first_open(tree: &[u64], n: usize) -> Next
-    requires { ⌜ (n + n ≤ length (now tree)) × (1 ≤ n) ⌝ }
+    requires { ⌜ (n + n ≤ length (now tree)) × ((1 ≤ n) × (n ≤ 1024)) ⌝ }
     ensures { λ r. ⌜ Topped n (now (tree .entry)) r ⌝ }
 {
     let top = tree[1];
