@@ -32,8 +32,17 @@ cleared-none n w = record {
 }
 
 module _ {n k : ℕ} {w₀ w : List ℕ} (C : Cleared n k w₀ w) (room : 4 * n ≤ length w₀) where
-  abbrev written : List ℕ
-  written = set (set (set (set w k 0) (n + k) 0) (n + n + k) 0) (n + n + n + k) 0
+  abbrev w₁ : List ℕ
+  w₁ = set w k 0
+
+  abbrev w₂ : List ℕ
+  w₂ = set w₁ (n + k) 0
+
+  abbrev w₃ : List ℕ
+  w₃ = set w₂ (n + n + k) 0
+
+  abbrev w₄ : List ℕ
+  w₄ = set w₃ (n + n + n + k) 0
 
   zero-set : (w : List ℕ) (j i : ℕ) → j < length w → ((i ≡ j → ⊥) → getD w i 0 ≡ 0) → getD (set w j 0) i 0 ≡ 0
   zero-set w j i l z = go (ℕ-discrete i j)
@@ -42,7 +51,7 @@ module _ {n k : ℕ} {w₀ w : List ℕ} (C : Cleared n k w₀ w) (room : 4 * n 
       go (yes e) = rw e (getD-set-same w j 0 0 l)
       go (no d) = getD-set-other w j i 0 0 d ∙ z d
 
-  pub cleared-more : k < n → Cleared n (k + 1) w₀ written
+  pub cleared-more : k < n → Cleared n (k + 1) w₀ w₄
   cleared-more l = record {
     size = simp length-set (C .size);
     one = λ i p h. at i (λ a b c d. C .one i p (omega arith));
@@ -50,15 +59,15 @@ module _ {n k : ℕ} {w₀ w : List ℕ} (C : Cleared n k w₀ w) (room : 4 * n 
     three = λ i p h. at i (λ a b c d. C .three i p (omega arith));
     four = λ i p h. at i (λ a b c d. C .four i p (omega arith));
     past = λ i h.
-        getD-set-other _ (n + n + n + k) i 0 0 (λ e. omega arith) ∙ getD-set-other _ (n + n + k) i 0 0 (λ e. omega arith)
-        ∙ getD-set-other _ (n + k) i 0 0 (λ e. omega arith) ∙ getD-set-other w k i 0 0 (λ e. omega arith) ∙ C .past i h;
+        getD-set-other w₃ (n + n + n + k) i 0 0 (λ e. omega arith) ∙ getD-set-other w₂ (n + n + k) i 0 0 (λ e. omega arith)
+        ∙ getD-set-other w₁ (n + k) i 0 0 (λ e. omega arith) ∙ getD-set-other w k i 0 0 (λ e. omega arith) ∙ C .past i h;
   }
     where
-      at : (i : ℕ) → ((i ≡ k → ⊥) → (i ≡ n + k → ⊥) → (i ≡ n + n + k → ⊥) → (i ≡ n + n + n + k → ⊥) → getD w i 0 ≡ 0) → getD written i 0 ≡ 0
+      at : (i : ℕ) → ((i ≡ k → ⊥) → (i ≡ n + k → ⊥) → (i ≡ n + n + k → ⊥) → (i ≡ n + n + n + k → ⊥) → getD w i 0 ≡ 0) → getD w₄ i 0 ≡ 0
       at i z =
-          zero-set _ (n + n + n + k) i (simp length-set (omega (arith, C .size)))
-          (λ d. zero-set _ (n + n + k) i (simp length-set (omega (arith, C .size)))
-          (λ c. zero-set _ (n + k) i (simp length-set (omega (arith, C .size)))
+          zero-set w₃ (n + n + n + k) i (simp length-set (omega (arith, C .size)))
+          (λ d. zero-set w₂ (n + n + k) i (simp length-set (omega (arith, C .size)))
+          (λ c. zero-set w₁ (n + k) i (simp length-set (omega (arith, C .size)))
           (λ b. zero-set w k i (omega (arith, C .size)) (λ a. z a b c d))))
 
   pub cleared-all : k ≡ n → w ≡ over (replicate (4 * n) 0) w₀
@@ -73,6 +82,6 @@ module _ {n k : ℕ} {w₀ w : List ℕ} (C : Cleared n k w₀ w) (room : 4 * n 
           quarter (no a) b (yes c) = C .three i (omega arith) (omega arith)
           quarter (no a) b (no c) = C .four i (omega arith) (omega arith)
       at i (no l) =
-          let s : length (replicate (4 * n) 0) + (i - 4 * n) ≡ i = rw length-replicate (omega arith) in
+          let s : length {A = ℕ} (replicate (4 * n) 0) + (i - 4 * n) ≡ i = rw length-replicate (omega arith) in
           C .past i (omega arith)
           ∙ sym (ap (λ x. getD (over (replicate (4 * n) 0) w₀) x 0) (sym s) ∙ getD-append-add (replicate (4 * n) 0) _ (i - 4 * n) 0 ∙ getD-drop _ w₀ (i - 4 * n) 0 ∙ ap (λ x. getD w₀ x 0) s)
