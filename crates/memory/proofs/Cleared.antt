@@ -1,10 +1,10 @@
 -- The four quarters of a memory, set to 0 side by side.
 use mathlib.Core.List.{List}
-use mathlib.Core.Path.{_≡_, refl, sym, ap, _∙_}
+use mathlib.Core.Path.{_≡_, sym, ap, _∙_}
 use Prim.Native.Nat.{ℕ, _+_, _-_, _*_, _≤_, _<_}
 use native.Mathlib.Decide.{decLt, ℕ-discrete}
 use native.Mathlib.Omega.{arith}
-use lib.ListN.{length, getD, set, drop, replicate, length-set, length-append, length-drop, length-replicate, getD-replicate, List·getD-append}
+use lib.ListN.{length, getD, set, replicate, length-set, length-append, length-drop, length-replicate, getD-replicate, List·getD-append}
 use lib.Seq.{getD-set-same, getD-set-other, getD-drop, getD-append-add, ext-getD}
 use Rattle.meaning.specs.Search.{over}
 
@@ -21,15 +21,13 @@ pub record Cleared (n k : ℕ) (w₀ w : List ℕ) : Type 0 where
   pub four : Blank w (n + n + n) k
   pub past : (i : ℕ) → 4 * n ≤ i → getD w i 0 ≡ getD w₀ i 0
 
-pub cleared-none : (n : ℕ) (w : List ℕ) → Cleared n 0 w w
-cleared-none n w = record {
-  size = refl;
-  one = λ i p h. absurd (omega arith);
-  two = λ i p h. absurd (omega arith);
-  three = λ i p h. absurd (omega arith);
-  four = λ i p h. absurd (omega arith);
-  past = λ i h. refl;
-}
+-- a 0 is written: an entry is 0 if it was, or if it is that one
+zero-set : (w : List ℕ) (j i : ℕ) → j < length w → ((i ≡ j → ⊥) → getD w i 0 ≡ 0) → getD (set w j 0) i 0 ≡ 0
+zero-set w j i l z = go (ℕ-discrete i j)
+  where
+    go : Dec (i ≡ j) → getD (set w j 0) i 0 ≡ 0
+    go (yes e) = rw e (getD-set-same w j 0 0 l)
+    go (no d) = getD-set-other w j i 0 0 d ∙ z d
 
 module _ {n k : ℕ} {w₀ w : List ℕ} (C : Cleared n k w₀ w) (room : 4 * n ≤ length w₀) where
   abbrev w₁ : List ℕ
@@ -43,13 +41,6 @@ module _ {n k : ℕ} {w₀ w : List ℕ} (C : Cleared n k w₀ w) (room : 4 * n 
 
   abbrev w₄ : List ℕ
   w₄ = set w₃ (n + n + n + k) 0
-
-  zero-set : (w : List ℕ) (j i : ℕ) → j < length w → ((i ≡ j → ⊥) → getD w i 0 ≡ 0) → getD (set w j 0) i 0 ≡ 0
-  zero-set w j i l z = go (ℕ-discrete i j)
-    where
-      go : Dec (i ≡ j) → getD (set w j 0) i 0 ≡ 0
-      go (yes e) = rw e (getD-set-same w j 0 0 l)
-      go (no d) = getD-set-other w j i 0 0 d ∙ z d
 
   pub cleared-more : k < n → Cleared n (k + 1) w₀ w₄
   cleared-more l = record {
@@ -71,17 +62,22 @@ module _ {n k : ℕ} {w₀ w : List ℕ} (C : Cleared n k w₀ w) (room : 4 * n 
           (λ b. zero-set w k i (omega (arith, C .size)) (λ a. z a b c d))))
 
   pub cleared-all : k ≡ n → w ≡ over (replicate (4 * n) 0) w₀
-  cleared-all e = ext-getD 0 w (over (replicate (4 * n) 0) w₀) (C .size ∙ rw (length-append, length-replicate, length-drop) (omega arith)) (λ i l. at i (decLt i (4 * n)))
+  cleared-all e =
+      ext-getD 0 w (over (replicate (4 * n) 0) w₀) (C .size ∙ rw (length-append, length-replicate, length-drop) (omega arith))
+      (λ i l. at i (decLt i (4 * n)))
     where
       at : (i : ℕ) → Dec (i < 4 * n) → getD w i 0 ≡ getD (over (replicate (4 * n) 0) w₀) i 0
-      at i (yes l) = quarter (decLt i (n + n)) (decLt i n) (decLt i (n + n + n)) ∙ sym (List·getD-append (replicate (4 * n) 0) _ 0 i (rw length-replicate l) ∙ getD-replicate (4 * n) i 0 0 l)
+      at i (yes l) =
+          quarter (decLt i n) (decLt i (n + n)) (decLt i (n + n + n))
+          ∙ sym (List·getD-append (replicate (4 * n) 0) _ 0 i (rw length-replicate l) ∙ getD-replicate (4 * n) i 0 0 l)
         where
-          quarter : Dec (i < n + n) → Dec (i < n) → Dec (i < n + n + n) → getD w i 0 ≡ 0
-          quarter (yes a) (yes b) c = C .one i (omega arith) (omega arith)
-          quarter (yes a) (no b) c = C .two i (omega arith) (omega arith)
-          quarter (no a) b (yes c) = C .three i (omega arith) (omega arith)
-          quarter (no a) b (no c) = C .four i (omega arith) (omega arith)
+          quarter : Dec (i < n) → Dec (i < n + n) → Dec (i < n + n + n) → getD w i 0 ≡ 0
+          quarter (yes a) b c = C .one i (omega arith) (omega arith)
+          quarter (no a) (yes b) c = C .two i (omega arith) (omega arith)
+          quarter (no a) (no b) (yes c) = C .three i (omega arith) (omega arith)
+          quarter (no a) (no b) (no c) = C .four i (omega arith) (omega arith)
       at i (no l) =
           let s : length {A = ℕ} (replicate (4 * n) 0) + (i - 4 * n) ≡ i = rw length-replicate (omega arith) in
           C .past i (omega arith)
-          ∙ sym (ap (λ x. getD (over (replicate (4 * n) 0) w₀) x 0) (sym s) ∙ getD-append-add (replicate (4 * n) 0) _ (i - 4 * n) 0 ∙ getD-drop _ w₀ (i - 4 * n) 0 ∙ ap (λ x. getD w₀ x 0) s)
+          ∙ sym (ap (λ x. getD (over (replicate (4 * n) 0) w₀) x 0) (sym s) ∙ getD-append-add (replicate (4 * n) 0) _ (i - 4 * n) 0
+          ∙ getD-drop _ w₀ (i - 4 * n) 0 ∙ ap (λ x. getD w₀ x 0) s)

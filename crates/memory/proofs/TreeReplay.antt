@@ -1,6 +1,6 @@
 -- The places above a leaf that was written are settled anew.
 use mathlib.Core.List.{List}
-use mathlib.Core.Path.{_≡_, refl, sym, _∙_}
+use mathlib.Core.Path.{_≡_, refl, _∙_}
 use Prim.Native.Nat.{ℕ, _+_, _*_, _/_, _≤_, _<_, max}
 use native.Mathlib.Decide.{ℕ-discrete}
 use native.Mathlib.Omega.{arith}
@@ -10,8 +10,9 @@ use lib.Seq.{getD-set-same, getD-set-other}
 use Rattle.memory.specs.Memory.{keyAt}
 use Rattle.memory.specs.Tree.{openAt, rankOf, Tree, But, Ranked}
 
--- the tree but for the place above i
-pub record Going (n : ℕ) (w : List ℕ) (i : ℕ) (t : List ℕ) : Type 0 where
+-- the tree but for the place above i, as long as t₀
+pub record Going (n : ℕ) (w t₀ : List ℕ) (i : ℕ) (t : List ℕ) : Type 0 where
+  pub size : length t ≡ length t₀
   pub room : n + n ≤ length t
   pub low : 1 ≤ i
   pub high : i < n + n
@@ -19,8 +20,9 @@ pub record Going (n : ℕ) (w : List ℕ) (i : ℕ) (t : List ℕ) : Type 0 wher
   pub leaves : (x : ℕ) → x < n → getD t (n + x) 0 ≡ rankOf n w x
   pub settled : (j : ℕ) → 1 ≤ j → j < n → (j ≡ i / 2 → ⊥) → getD t j 0 ≡ max (getD t (2 * j) 0) (getD t (2 * j + 1) 0)
 
-pub going-starts : {n v r : ℕ} {w t : List ℕ} → But n w v t → Ranked n w v r → v < n → Going n w (n + v) (set t (n + v) r)
+pub going-starts : {n v r : ℕ} {w t : List ℕ} → But n w v t → Ranked n w v r → v < n → Going n w (set t (n + v) r) (n + v) (set t (n + v) r)
 going-starts {n} {v} {r} {w} {t} B R l = record {
+  size = refl;
   room = rw length-set (B .room);
   low = omega arith;
   high = omega arith;
@@ -41,15 +43,16 @@ going-starts {n} {v} {r} {w} {t} B R l = record {
     leaves x h (no z) = other (n + x) (λ e. z (omega arith)) ∙ B .leaves x h z
 
 -- at the place above i goes the larger of the two below it
-module _ {n i best : ℕ} {w t : List ℕ} (G : Going n w i t) (p : 1 < i) (b : best ≡ max (getD t (i / 2 + i / 2) 0) (getD t (i / 2 + i / 2 + 1) 0)) where
+module _ {n i best : ℕ} {w t₀ t : List ℕ} (G : Going n w t₀ i t) (p : 1 < i) (b : best ≡ max (getD t (i / 2 + i / 2) 0) (getD t (i / 2 + i / 2 + 1) 0)) where
   above : i / 2 < n
   above = omega (arith, G .high)
 
   best-is : best ≡ max (getD t (2 * (i / 2)) 0) (getD t (2 * (i / 2) + 1) 0)
   best-is = let e : i / 2 + i / 2 ≡ 2 * (i / 2) = omega arith in rw e at b
 
-  pub going-on : Going n w (i / 2) (set t (i / 2) best)
+  pub going-on : Going n w t₀ (i / 2) (set t (i / 2) best)
   going-on = record {
+    size = length-set t (i / 2) best ∙ G .size;
     room = rw length-set (G .room);
     low = omega arith;
     high = omega (arith, above);
@@ -78,5 +81,5 @@ module _ {n i best : ℕ} {w t : List ℕ} (G : Going n w i t) (p : 1 < i) (b : 
       settled j q h (no d) = G .settled j q h d
 
 -- nothing is above the top
-pub going-top : {n i : ℕ} {w t : List ℕ} → Going n w i t → i ≤ 1 → Tree n w t
+pub going-top : {n i : ℕ} {w t₀ t : List ℕ} → Going n w t₀ i t → i ≤ 1 → Tree n w t
 going-top G l = record { room = G .room; near = G .near; leaves = G .leaves; settled = λ j q h. G .settled j q h (λ e. omega arith) }

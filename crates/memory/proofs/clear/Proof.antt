@@ -2,7 +2,7 @@ use Prim.Native.Nat.{_-_, _≤_}
 use native.Mathlib.Omega.{arith}
 use borrow.Author.Needs.{needs}
 use lib.ListN.{length-set}
-use Rattle.memory.proofs.Cleared.{Cleared, cleared-none, cleared-more, cleared-all}
+use Rattle.memory.proofs.Cleared.{Cleared, cleared-more, cleared-all}
 use Rattle.memory.proofs.clear.Statement.{statement}
 use Rattle.memory.proofs.clear.Tie as tie
 

@@ -1,13 +1,13 @@
-use mathlib.Core.Path.{_≡_, refl, _∙_}
+use mathlib.Core.Path.{_∙_}
 use native.Mathlib.Omega.{arith}
 use borrow.Author.Needs.{needs}
-use lib.ListN.{length, length-set}
+use lib.ListN.{length-set}
 use Rattle.memory.proofs.TreeReplay.{Going, going-starts, going-on, going-stops, going-top}
 use Rattle.memory.proofs.tree.replay.Statement.{statement}
 use Rattle.memory.proofs.tree.replay.Tie as tie
 
 abbrev Inv-loop : tie.InvT-loop
-Inv-loop work n v tree₀ i₀ tree i = Going n work i tree × (length tree ≡ length tree₀)
+Inv-loop work n v tree₀ i₀ tree i = Going n work tree₀ i tree
 
 abbrev μ-loop : tie.MeasureT-loop
 μ-loop work n v tree₀ i₀ tree i = i
@@ -25,7 +25,7 @@ slice-write-tree : tie.Need-slice-write-tree Inv-loop μ-loop
 slice-write-tree c = search needs
 
 loop-holds : tie.Need-loop-holds Inv-loop μ-loop
-loop-holds c = (going-starts (c .before .before .before .pre .1) (c .rank .ensures) (c .before .before .before .pre .0 .1 .0), refl)
+loop-holds c = going-starts (c .before .before .before .pre .1) (c .rank .ensures) (c .before .before .before .pre .0 .1 .0)
 
 add-larger : tie.Need-add-larger Inv-loop μ-loop
 add-larger c = search needs
@@ -58,11 +58,11 @@ slice-read-if1 : tie.Need-slice-read-if1 Inv-loop μ-loop
 slice-read-if1 c = search needs
 
 same-length : tie.Need-same-length Inv-loop μ-loop
-same-length c = c .before .before .before .before .before .before .loop .inv .1 ∙ simp length-set
+same-length c = c .before .before .before .before .before .before .loop .inv .size ∙ simp length-set
 
 returns : tie.Need-returns Inv-loop μ-loop
 returns c =
-    going-stops (c .before .before .before .before .before .before .loop .inv .0) (c .before .before .before .before .before .loop-test .taken) (c .before .before .larger .ensures) (c .if1 .taken)
+    going-stops (c .before .before .before .before .before .before .loop .inv) (c .before .before .before .before .before .loop-test .taken) (c .before .before .larger .ensures) (c .if1 .taken)
 
 mul-tree-2 : tie.Need-mul-tree-2 Inv-loop μ-loop
 mul-tree-2 c = search needs
@@ -75,13 +75,13 @@ loop-less c = search needs
 
 loop-again : tie.Need-loop-again Inv-loop μ-loop
 loop-again c =
-    (going-on (c .before .before .before .before .before .before .loop .inv .0) (c .before .before .before .before .before .loop-test .taken) (c .before .before .larger .ensures), rw length-set (c .before .before .before .before .before .before .loop .inv .1))
+    going-on (c .before .before .before .before .before .before .loop .inv) (c .before .before .before .before .before .loop-test .taken) (c .before .before .larger .ensures)
 
 same-length-2 : tie.Need-same-length-2 Inv-loop μ-loop
-same-length-2 c = c .before .loop .inv .1 ∙ simp length-set
+same-length-2 c = c .before .loop .inv .size ∙ simp length-set
 
 returns-2 : tie.Need-returns-2 Inv-loop μ-loop
-returns-2 c = going-top (c .before .loop .inv .0) (omega arith)
+returns-2 c = going-top (c .before .loop .inv) (omega arith)
 
 pub replay-spec : {M : Type 1} → statement M
 replay-spec =
