@@ -12,26 +12,11 @@ use mir.Val.{Fits, SFits, toZ, ofZ}
 use mir.Facts.{toZ-ofZ, sfits-widen, sfits-toZ, fits-ofZ}
 use Rattle.meaning.specs.Straight.{gap, squares}
 use Rattle.straight.specs.Points.{Placed, entry, farthest}
-use Rattle.straight.proofs.Laws.{gap-small, square-small, squares-small}
+use Rattle.straight.proofs.Laws.{gap-small, square-small, squares-small, back, Square, square-back}
 
 -- a coordinate in range, or where a place that doesn't count is put
 abbrev pub Near : ℤ → Type 0
 Near z = natAbs z ≤ 1000000000
-
--- ---- what the machine reads back is the number itself
-
--- a number of 32 bits that was passed on
-abbrev pub back : ℤ → ℤ
-back z = toZ w32 (ofZ w32 z)
-
-pub near-back : (z : ℤ) → SFits w32 z → natAbs z ≤ 200000000 → Near (back z)
-near-back z f l = rw (toZ-ofZ f) (omega arith)
-
-abbrev Square : ℕ → ℤ → ℤ → Type 0
-Square r a b = r ≡ gap a b * gap a b
-
-square-back : {r : ℕ} {a b : ℤ} → SFits w32 a → SFits w32 b → Square r (back a) (back b) → Square r a b
-square-back {r} {a} {b} f g e = e ∙ ap (λ (z : ℤ). gap z (back b) * gap z (back b)) (toZ-ofZ f) ∙ ap (λ (z : ℤ). gap a z * gap a z) (toZ-ofZ g)
 
 -- the two squares of two nodes, which were passed on
 pub sum-is : {xs ys : List ℤ} {a b r s : ℕ} → Placed xs ys a → Placed xs ys b

@@ -4,6 +4,9 @@ use mathlib.Core.Path.{_≡_, refl, ap, _∙_}
 use Prim.Native.Nat.{ℕ, zero, suc, _+_, _*_, _≤_, _<_}
 use native.Mathlib.Omega.{arith}
 use lib.IntN.{ℤ, pos, negsuc, natAbs, negℤ, +ℤ-idl, +ℤ-idr}
+use mir.Syntax.{w32}
+use mir.Val.{SFits, toZ, ofZ}
+use mir.Facts.{toZ-ofZ}
 use Rattle.meaning.specs.Straight.{gap, root, squares}
 use Rattle.meaning.proofs.Estimates.{gap-triangle}
 use Rattle.meaning.proofs.Roots.{root-floor, sq-le, sq-lt-inv}
@@ -45,3 +48,17 @@ squares-small {xs} {ys} {a} {b} p q =
     let l = square-small (entry xs a) (entry xs b) 400000000 (omega (arith, p .x-near, q .x-near)) in
     let m = square-small (entry ys a) (entry ys b) 400000000 (omega (arith, p .y-near, q .y-near)) in
     omega arith
+
+-- ---- a number of 32 bits that was passed on: what the machine reads back is the number itself
+
+abbrev pub back : ℤ → ℤ
+back z = toZ w32 (ofZ w32 z)
+
+pub small-back : (z : ℤ) {m : ℕ} → SFits w32 z → natAbs z ≤ m → natAbs (back z) ≤ m
+small-back z f l = rw (toZ-ofZ f) l
+
+abbrev pub Square : ℕ → ℤ → ℤ → Type 0
+Square r a b = r ≡ gap a b * gap a b
+
+pub square-back : {r : ℕ} {a b : ℤ} → SFits w32 a → SFits w32 b → Square r (back a) (back b) → Square r a b
+square-back {r} {a} {b} f g e = e ∙ ap (λ (z : ℤ). gap z (back b) * gap z (back b)) (toZ-ofZ f) ∙ ap (λ (z : ℤ). gap a z * gap a z) (toZ-ofZ g)

@@ -1,7 +1,8 @@
 use borrow.Author.Needs.{needs}
 use native.Mathlib.Omega.{arith}
 use Rattle.straight.specs.Points.{entry}
-use Rattle.straight.proofs.Gaps.{near-back, sum-is}
+use Rattle.straight.proofs.Gaps.{sum-is}
+use Rattle.straight.proofs.Laws.{small-back}
 use Rattle.straight.proofs.squares.Statement.{statement}
 use Rattle.straight.proofs.squares.Tie as tie
 
@@ -21,8 +22,8 @@ apart-requires : tie.Need-apart-requires
 apart-requires c κs =
     let start = c .before .before in
     let a = start .args in (
-      near-back (entry (a .xs .now) (a .a)) (record { sfits = c .before .apart-arg .given }) (start .pre .0 .x-near),
-      near-back (entry (a .xs .now) (a .b)) (record { sfits = c .apart-arg2 .given }) (start .pre .1 .x-near),
+      small-back (entry (a .xs .now) (a .a)) (record { sfits = c .before .apart-arg .given }) (omega (arith, start .pre .0 .x-near)),
+      small-back (entry (a .xs .now) (a .b)) (record { sfits = c .apart-arg2 .given }) (omega (arith, start .pre .1 .x-near)),
     )
 
 mul-apart-3 : tie.Need-mul-apart-3
@@ -41,8 +42,8 @@ apart-requires-2 : tie.Need-apart-requires-2
 apart-requires-2 c κs =
     let start = c .before .before .before .before .before in
     let a = start .args in (
-      near-back (entry (a .ys .now) (a .a)) (record { sfits = c .before .apart-arg3 .given }) (start .pre .0 .y-near),
-      near-back (entry (a .ys .now) (a .b)) (record { sfits = c .apart-arg4 .given }) (start .pre .1 .y-near),
+      small-back (entry (a .ys .now) (a .a)) (record { sfits = c .before .apart-arg3 .given }) (omega (arith, start .pre .0 .y-near)),
+      small-back (entry (a .ys .now) (a .b)) (record { sfits = c .apart-arg4 .given }) (omega (arith, start .pre .1 .y-near)),
     )
 
 add-result : tie.Need-add-result
