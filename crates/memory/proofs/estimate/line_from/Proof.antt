@@ -1,4 +1,4 @@
-use mathlib.Core.Path.{_≡_, refl, ap, _∙_}
+use mathlib.Core.Path.{_≡_, refl, sym, ap, _∙_}
 use Prim.Native.Nat.{suc, _-_, _≤_}
 use native.Mathlib.Omega.{arith}
 use borrow.Author.Needs.{needs}
@@ -6,24 +6,34 @@ use Rattle.meaning.specs.Straight.{root}
 use Rattle.straight.specs.Points.{farthest}
 use Rattle.straight.proofs.Laws.{root-small}
 use Rattle.memory.specs.Aim.{leastTo, lineTo}
+use Rattle.memory.proofs.Closest.{squareOf, site-sized, least-next, none-found, one-found}
 use Rattle.memory.proofs.estimate.line_from.Statement.{statement}
 use Rattle.memory.proofs.estimate.line_from.Tie as tie
 
 abbrev Inv-loop : tie.InvT-loop
-Inv-loop xs ys sites work n s v best₀ j₀ best j = (j ≤ s) × (best ≡ leastTo xs ys sites n work v j) × (best ≤ suc farthest)
+Inv-loop xs ys sites work n s ax ay v x y best₀ j₀ best j = (j ≤ s) × (best ≡ squareOf (leastTo xs ys sites n work v j)) × (leastTo xs ys sites n work v j ≤ suc farthest)
 
 abbrev μ-loop : tie.MeasureT-loop
-μ-loop xs ys sites work n s v best₀ j₀ best j = s - j
+μ-loop xs ys sites work n s ax ay v x y best₀ j₀ best j = s - j
+
+mul-x : tie.Need-mul-x Inv-loop μ-loop
+mul-x c = search needs
+
+shared-slice-copy-out-x : tie.Need-shared-slice-copy-out-x Inv-loop μ-loop
+shared-slice-copy-out-x c = ?
+
+mul-y : tie.Need-mul-y Inv-loop μ-loop
+mul-y c = search needs
+
+shared-slice-copy-out-y : tie.Need-shared-slice-copy-out-y Inv-loop μ-loop
+shared-slice-copy-out-y c = ?
 
 loop-holds : tie.Need-loop-holds Inv-loop μ-loop
 unfolding leastTo
 loop-holds c = (omega arith, refl, omega arith)
 
 closer-requires : tie.Need-closer-requires Inv-loop μ-loop
-closer-requires c κs =
-    let s = c .before .before .before .before in
-    let l = c .before .loop in
-    ((s .pre .0 .0, (s .pre .0 .1, (c .loop-test .taken, l .inv .1))), (s .pre .1, l .inv .2))
+closer-requires c κs = ?
 
 add-j : tie.Need-add-j Inv-loop μ-loop
 add-j c = search needs
@@ -32,32 +42,19 @@ loop-less : tie.Need-loop-less Inv-loop μ-loop
 loop-less c = search needs
 
 loop-again : tie.Need-loop-again Inv-loop μ-loop
-loop-again c = (omega arith, c .closer .ensures .0, c .closer .ensures .1)
+loop-again c = ?
 
-less-one-requires : tie.Need-less-one-requires Inv-loop μ-loop
-less-one-requires c κs = search needs
+returns : tie.Need-returns Inv-loop μ-loop
+returns c = ?
 
 root-requires : tie.Need-root-requires Inv-loop μ-loop
 root-requires c κs = search needs
 
-small : (c : tie.After-root Inv-loop μ-loop) → c .root .result ≤ 1000000000
-small c =
-    let e : c .before .less-one .result ≡ c .before .before .before .loop .best - 1 = c .before .less-one .ensures in
-    let f : c .root .result ≡ root (c .before .less-one .result) = c .root .ensures in
-    omega (arith, root-small (c .before .less-one .result) (omega arith))
+cast-t21 : tie.Need-cast-t21 Inv-loop μ-loop
+cast-t21 c = ?
 
-cast-t13 : tie.Need-cast-t13 Inv-loop μ-loop
-cast-t13 c = omega (arith, small c)
-
-returns : tie.Need-returns Inv-loop μ-loop
-unfolding lineTo
-returns c =
-    let l = c .before .before .before .loop in
-    let a = c .before .before .before .before .before .before .args in
-    let e : c .before .less-one .result ≡ l .best - 1 = c .before .less-one .ensures in
-    let f : c .root .result ≡ root (c .before .less-one .result) = c .root .ensures in
-    let i : l .j ≡ a .s = omega arith in
-    (f ∙ ap root (e ∙ ap (λ k. k - 1) (rw i at (l .inv .1))), small c)
+returns-2 : tie.Need-returns-2 Inv-loop μ-loop
+returns-2 c = ?
 
 pub line-from-spec : {M : Type 1} → statement M
 line-from-spec =
@@ -65,12 +62,16 @@ line-from-spec =
     (tie.spec
     Inv-loop
     μ-loop
+    mul-x
+    shared-slice-copy-out-x
+    mul-y
+    shared-slice-copy-out-y
     loop-holds
     closer-requires
     add-j
     loop-less
     loop-again
-    less-one-requires
+    returns
     root-requires
-    cast-t13
-    returns)
+    cast-t21
+    returns-2)
