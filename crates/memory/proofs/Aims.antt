@@ -24,15 +24,13 @@ pub record Gathered (column : List ℤ) (sites : List ℕ) (j : ℕ) (a₀ a : L
 pub gathered-none : (column : List ℤ) (sites : List ℕ) (a : List ℤ) → Gathered column sites 0 a a
 gathered-none column sites a = record { size = refl; along = λ i l. absurd (omega arith) }
 
-pub gathered-next : {column : List ℤ} {sites : List ℕ} {j : ℕ} {a₀ a : List ℤ} → Gathered column sites j a₀ a → j < length a₀
-    → Gathered column sites (j + 1) a₀ (set a j (entry column (getD sites j 0 - 1)))
-gathered-next {column} {sites} {j} {a₀} {a} H l = record { size = length-set a j _ ∙ H .size; along = λ i k. go i k (decLt i j) }
+pub gathered-next : {column : List ℤ} {sites : List ℕ} {j : ℕ} {a₀ a : List ℤ} {z : ℤ} → Gathered column sites j a₀ a → j < length a₀
+    → z ≡ entry column (getD sites j 0 - 1) → Gathered column sites (j + 1) a₀ (set a j z)
+gathered-next {column} {sites} {j} {a₀} {a} {z} H l e = record { size = length-set a j z ∙ H .size; along = λ i k. go i k (decLt i j) }
   where
-    go : (i : ℕ) → i < j + 1 → Dec (i < j) → getD (set a j (entry column (getD sites j 0 - 1))) i (pos 0) ≡ entry column (getD sites i 0 - 1)
-    go i k (yes h) = getD-set-other a j i (entry column (getD sites j 0 - 1)) (pos 0) (λ e. omega arith) ∙ H .along i h
-    go i k (no h) =
-        let e : i ≡ j = omega arith in
-        rw e (getD-set-same a j (entry column (getD sites j 0 - 1)) (pos 0) (omega (arith, H .size)))
+    go : (i : ℕ) → i < j + 1 → Dec (i < j) → getD (set a j z) i (pos 0) ≡ entry column (getD sites i 0 - 1)
+    go i k (yes h) = getD-set-other a j i z (pos 0) (λ e. omega arith) ∙ H .along i h
+    go i k (no h) = let is : i ≡ j = omega arith in rw is (getD-set-same a j z (pos 0) (omega (arith, H .size)) ∙ e)
 
 -- ---- one column, as a site is put far off
 
@@ -66,8 +64,12 @@ module _ {sites : List ℕ} {j v : ℕ} {a₀ a : List ℤ} (H : Forgetting site
       go i k (yes h) = H .along i h
       go i k (no h) = let is : i ≡ j = omega arith in rw (is, ne-eqb _ _ z) (H .rest j (omega arith))
 
-  pub forgotten : Forgotten sites j v true a₀ a
-  forgotten = record { size = H .size; across = H .along }
+  pub forgotten : {s : ℕ} {site : Bool} → j ≡ s → site ≡ true → Forgotten sites s v site a₀ a
+  forgotten {s} {site} i e = record { size = H .size; across = λ k l. rw e (H .along k (omega arith)) }
+
+-- what is no site
+pub unforgotten : {sites : List ℕ} {s v : ℕ} {site : Bool} {a : List ℤ} → site ≡ false → Forgotten sites s v site a a
+unforgotten e = record { size = refl; across = λ j l. rw e }
 
 -- ---- the two columns
 

@@ -12,13 +12,14 @@ use lib.IntN.{ℤ, pos, natAbs}
 use lib.ListN.{getD}
 use mir.Syntax.{w32}
 use mir.Val.{SFits}
+use mir.Facts.{toZ-ofZ}
 use Rattle.meaning.specs.Scan.{any}
 use Rattle.meaning.specs.Straight.{gap, root, rootTo, squares}
 use Rattle.meaning.proofs.Bools.{T-true, true-T}
 use Rattle.meaning.proofs.Estimates.{gap-self}
 use Rattle.meaning.proofs.Scans.{any-of, any-is}
 use Rattle.straight.specs.Points.{entry, farthest}
-use Rattle.straight.proofs.Laws.{square-small, square-large, squares-small, back, Square, square-back}
+use Rattle.straight.proofs.Laws.{square-small, square-large, squares-small, back, small-back, Square, square-back}
 use Rattle.memory.specs.Memory.{isTaken}
 use Rattle.memory.specs.Aim.{Ground, Aims, Sized, siteIn, closerOf, leastTo, lineTo, farOff, nearer}
 use Rattle.memory.proofs.Aims.{site-below}
@@ -87,18 +88,18 @@ closer-is q (suc b) l = rw (square-suc b, eqb·suc-zero b) (go (decLt q b))
     go (yes h) = rw (lt-ltb q b h, lt-ltb (suc q) (suc b) (omega arith)) (sym (square-suc q))
     go (no h) = rw (le-ltb q b (omega arith), le-ltb (suc q) (suc b) (omega arith)) (sym (square-suc b))
 
-module _ {xs ys : List ℤ} {sites : List ℕ} {n s : ℕ} {w : List ℕ} {ax ay : List ℤ} (G : Ground xs ys sites n s) (A : Aims xs ys sites n s w ax ay) (v j : ℕ) (l : v < n)
-    (k : j < s) where
+module _ {xs ys : List ℤ} {sites : List ℕ} {n s : ℕ} {w : List ℕ} {ax ay : List ℤ} (G : Ground xs ys sites n s) (A : Aims xs ys sites n s w ax ay) (v j : ℕ)
+    (l : v < n) (k : j < s) (fx : SFits w32 (entry xs v)) (fy : SFits w32 (entry ys v)) where
   abbrev node : ℕ
   node = getD sites j 0 - 1
 
-  pub site-sized : Sized (entry xs v) (entry ys v) (getD ax j (pos 0)) (getD ay j (pos 0))
+  pub site-sized : Sized (back (entry xs v)) (back (entry ys v)) (getD ax j (pos 0)) (getD ay j (pos 0))
   site-sized =
       let p = G .points v l in
       let q = G .points node (site-below G j k) in
       record {
-        near-x = p .x-near;
-        near-y = p .y-near;
+        near-x = small-back (entry xs v) fx (p .x-near);
+        near-y = small-back (entry ys v) fy (p .y-near);
         near-a = rw (A .across j k) (go (isTaken n w node) (q .x-near));
         near-b = rw (A .upward j k) (omega (arith, q .y-near));
       }
@@ -121,22 +122,23 @@ module _ {xs ys : List ℤ} {sites : List ℕ} {n s : ℕ} {w : List ℕ} {ax ay
       closer-far (gap (entry xs v) farOff * gap (entry xs v) farOff + gap (entry ys v) (entry ys node) * gap (entry ys v) (entry ys node)) least (omega arith) h
   next-is h m false = closer-is square least m
 
-  pub least-next : least ≤ suc farthest
-      → (nearer (entry xs v) (entry ys v) (getD ax j (pos 0)) (getD ay j (pos 0)) (squareOf least) ≡ squareOf (leastTo xs ys sites n w v (j + 1)))
-      × (leastTo xs ys sites n w v (j + 1) ≤ suc farthest)
+  pub least-next : {best r : ℕ} → best ≡ squareOf least → least ≤ suc farthest
+      → r ≡ nearer (back (entry xs v)) (back (entry ys v)) (getD ax j (pos 0)) (getD ay j (pos 0)) best
+      → (r ≡ squareOf (leastTo xs ys sites n w v (j + 1))) × (leastTo xs ys sites n w v (j + 1) ≤ suc farthest)
   unfolding leastTo
-  least-next h =
+  least-next e h is =
       let m : square ≤ farthest = squares-small (G .points v l) (G .points node (site-below G j k)) in
-      rw (add-one, A .across j k, A .upward j k) (next-is h m (isTaken n w node), closer-small (isTaken n w node) square least m h)
+      rw (is, e, toZ-ofZ fx, toZ-ofZ fy, add-one, A .across j k, A .upward j k) (next-is h m (isTaken n w node), closer-small (isTaken n w node) square least m h)
 
--- where no site has been found, and where one has
-pub none-found : (least : ℕ) → least ≤ suc farthest → squareOf least ≡ suc farthest → least ≡ 0
-none-found zero l e = refl
-none-found (suc b) l e = let h = square-suc b in absurd (omega arith)
+-- at the end: no site has been found, or the closest
+pub line-none : (best least : ℕ) → best ≡ squareOf least → least ≤ suc farthest → best ≡ suc farthest → 0 ≡ root (least - 1)
+unfolding root rootTo
+line-none best zero e l f = refl
+line-none best (suc b) e l f = let h = square-suc b in absurd (omega arith)
 
-pub one-found : (least : ℕ) → (squareOf least ≡ suc farthest → ⊥) → squareOf least ≡ least - 1
-one-found zero z = absurd (z refl)
-one-found (suc b) z = square-suc b ∙ omega arith
+pub line-found : (best least : ℕ) → best ≡ squareOf least → least ≤ suc farthest → (best ≡ suc farthest → ⊥) → (best ≡ least - 1) × (best ≤ farthest)
+line-found best zero e l z = absurd (z e)
+line-found best (suc b) e l z = let h = square-suc b in omega arith
 
 -- ---- a site's own line
 
