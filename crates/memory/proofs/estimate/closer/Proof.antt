@@ -32,13 +32,27 @@ apart-requires-2 c κs =
     (small-back (a .y) (start .fits .y) (omega (arith, start .pre .1 .near-y)), small-back (getD (a .ay .now) (a .j) (pos 0)) (record { sfits = c .apart-arg2 .given }) (start .pre .1 .near-b))
 
 add-square : tie.Need-add-square
-add-square c = omega (arith, sum-fits (c .before .before .before .before .pre .1) (c .before .before .before .before .fits .x) (c .before .before .before .before .fits .y) (record { sfits = c .before .before .before .apart-arg .given }) (record { sfits = c .before .apart-arg2 .given }) (c .before .before .apart .ensures) (c .apart2 .ensures))
+add-square c =
+    let start = c .before .before .before .before in
+    omega (
+      arith,
+      sum-fits (start .pre .1) (start .fits .x) (start .fits .y) (record { sfits = c .before .before .before .apart-arg .given }) (record { sfits = c .before .apart-arg2 .given })
+          (c .before .before .apart .ensures) (c .apart2 .ensures),
+    )
 
 returns : tie.Need-returns
-returns c = sum-nearer (c .before .before .before .before .before .pre .1) (c .before .before .before .before .before .fits .x) (c .before .before .before .before .before .fits .y) (record { sfits = c .before .before .before .before .apart-arg .given }) (record { sfits = c .before .before .apart-arg2 .given }) (c .before .before .before .apart .ensures) (c .before .apart2 .ensures) _ (c .if1 .taken)
+returns c =
+    let sum = c .before in
+    let start = sum .before .before .before .before in
+    sum-nearer (start .pre .1) (start .fits .x) (start .fits .y) (record { sfits = sum .before .before .before .apart-arg .given }) (record { sfits = sum .before .apart-arg2 .given })
+    (sum .before .before .apart .ensures) (sum .apart2 .ensures) _ (c .if1 .taken)
 
 returns-2 : tie.Need-returns-2
-returns-2 c = sum-kept (c .before .before .before .before .before .pre .1) (c .before .before .before .before .before .fits .x) (c .before .before .before .before .before .fits .y) (record { sfits = c .before .before .before .before .apart-arg .given }) (record { sfits = c .before .before .apart-arg2 .given }) (c .before .before .before .apart .ensures) (c .before .apart2 .ensures) _ (c .if1 .left)
+returns-2 c =
+    let sum = c .before in
+    let start = sum .before .before .before .before in
+    sum-kept (start .pre .1) (start .fits .x) (start .fits .y) (record { sfits = sum .before .before .before .apart-arg .given }) (record { sfits = sum .before .apart-arg2 .given })
+    (sum .before .before .apart .ensures) (sum .apart2 .ensures) _ (c .if1 .left)
 
 pub closer-spec : {M : Type 1} → statement M
 closer-spec =
