@@ -1,6 +1,4 @@
 use borrow.Author.Needs.{needs}
-use mathlib.Core.Path.{_∙_}
-use native.Mathlib.Omega.{arith}
 use lib.ListN.{length-set}
 use Rattle.taking.proofs.Closing.{rival-tree, rival-apart, closed, shut}
 use Rattle.taking.proofs.close.Statement.{statement}
