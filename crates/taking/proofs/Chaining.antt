@@ -1,12 +1,10 @@
 -- A node's arcs in a chain: what a number in it says of the arcs, and how the chains are made, from the last arc down.
-use mathlib.Core.Bool.{Bool, true, false, cond}
 use mathlib.Core.List.{List}
-use mathlib.Core.Path.{_≡_, refl, sym, ap, _∙_}
+use mathlib.Core.Path.{_≡_, refl, _∙_}
 use Prim.Native.Nat.{ℕ, zero, suc, _+_, _-_, _≤_, _<_}
-use native.Mathlib.Decide.{decLt, ℕ-discrete}
+use native.Mathlib.Decide.{ℕ-discrete}
 use native.Mathlib.Omega.{arith}
 use borrow.Author.Tests.{eq-eqb, ne-eqb}
-use lib.Dec.{eqb}
 use lib.ListN.{length, getD, set, length-set}
 use lib.Seq.{getD-set-same, getD-set-other}
 use Rattle.taking.specs.Ways.{seek, Tailed, Linked}
@@ -126,10 +124,10 @@ module _ {tails : List ℕ} {n m : ℕ} {starts₀ nexts₀ : List ℕ} (T : Tai
             rw (e, is) (getD-set-same nexts i (getD starts (number - 1) 0) 0 l ∙ (rw z at (r .first (number - 1) (omega arith))))
         go (no e) = rw (getD-set-other nexts i x (getD starts (number - 1) 0) 0 e) (r .next x (omega arith) b)
 
-  pub link-one : (starts nexts : List ℕ) (left : ℕ) → 0 < left → Linking tails n m starts₀ nexts₀ starts nexts left
+  pub link-one : {starts nexts : List ℕ} (left : ℕ) → 0 < left → Linking tails n m starts₀ nexts₀ starts nexts left
       → (let number = getD tails (left - 1) 0 in Linking tails n m starts₀ nexts₀ (set starts (number - 1) left) (set nexts (left - 1) (getD starts (number - 1) 0)) (left - 1))
-  link-one starts nexts zero p r = absurd (omega arith)
-  link-one starts nexts (suc i) p r =
+  link-one {starts} {nexts} zero p r = absurd (omega arith)
+  link-one {starts} {nexts} (suc i) p r =
       let D = due r p in
       let e : suc i - 1 ≡ i = omega arith in
       let k : m - i ≡ suc (m - suc i) = omega (arith, D) in
@@ -144,8 +142,8 @@ module _ {tails : List ℕ} {n m : ℕ} {starts₀ nexts₀ : List ℕ} (T : Tai
         next = link-next starts nexts i (getD tails i 0) refl r low high (omega (arith, D));
       })
 
-  pub link-all : (starts nexts : List ℕ) (left : ℕ) → left ≤ 0 → Linking tails n m starts₀ nexts₀ starts nexts left → Linked tails n m starts nexts
-  link-all starts nexts left l r =
+  pub link-all : {starts nexts : List ℕ} {left : ℕ} → left ≤ 0 → Linking tails n m starts₀ nexts₀ starts nexts left → Linked tails n m starts nexts
+  link-all {starts} {nexts} {left} l r =
       let e : left ≡ 0 = omega arith in
       record {
         start-room = omega (arith, r .start-size, T .start-room);

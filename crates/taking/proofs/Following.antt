@@ -5,7 +5,7 @@ use mathlib.Core.Path.{_≡_, refl, _∙_}
 use Prim.Native.Nat.{ℕ, zero, suc, _+_, _-_, _≤_, _<_}
 use native.Mathlib.Decide.{decLt}
 use native.Mathlib.Omega.{arith}
-use borrow.Author.Tests.{eq-eqb, ne-eqb, lt-ltb, le-ltb}
+use borrow.Author.Tests.{eq-eqb, ne-eqb, lt-ltb}
 use lib.Dec.{ltb}
 use lib.ListN.{length, getD, set}
 use Rattle.meaning.specs.Region.{Tables, regionOf, isSite}
@@ -38,13 +38,13 @@ head-reached t u d i s from rest w e y = rw (eq-eqb (getD (t .tails) i 0 - 1) u 
     go true y = y
     go false y = y
 
--- an arc of another node changes nothing
 module _ (t : Tables) (u : ℕ) (w w₁ : List ℕ) (low : (x : ℕ) → x < t .m → 1 ≤ getD (t .tails) x 0) where
+  -- an arc of another node changes nothing
   relaxed-other : (i : ℕ) → i < t .m → (getD (t .tails) i 0 ≡ suc u → ⊥) → Relaxed t u i w w₁ → Relaxed t u (suc i) w w₁
   unfolding relaxTo relax looks parentsTo parentBy
   relaxed-other i l z r s from rest H k = let p = low i l in rw (ne-eqb (getD (t .tails) i 0 - 1) u (λ e. z (omega arith))) (r s from rest H k)
 
-  -- so do those from i to before j
+  -- nor do several, from i to before j
   relaxed-past : (i j : ℕ) → i ≤ j → j ≤ t .m → Apart (t .tails) (suc u) i j → Relaxed t u i w w₁ → Relaxed t u j w w₁
   relaxed-past i zero l h z r = let e : i ≡ 0 = omega arith in rw e at r
   relaxed-past i (suc j) l h z r = go (decLt i (suc j)) (λ k. relaxed-past i j k (omega arith) (λ x a b. z x a (omega arith)) r)
@@ -92,7 +92,7 @@ pub record Ahead (t : Tables) (nexts : List ℕ) (i : ℕ) : Type 0 where
   pub weight-room : t .m ≤ length (t .weights)
   pub next-room : t .m ≤ length nexts
 
--- how many arcs may be left in a chain of m
+-- how many of m arcs may still follow in a chain
 abbrev pub left : ℕ → ℕ → ℕ
 left m next = cond (ltb 0 next) (suc m - next) 0
 
@@ -116,7 +116,7 @@ module _ {t : Tables} {u : ℕ} {w tree : List ℕ} where
     met p = seek-some (t .tails) (suc u) (r .passed) (t .m - r .passed) next (r .sought) p
 
     module _ {starts nexts : List ℕ} (A : Arcs (t .tails) (t .heads) (t .weights) (t .n) (t .m)) (L : Linked (t .tails) (t .n) (t .m) starts nexts) where
-      -- no arc is left, of any node
+      -- no arc of u is left
       pub follow-all : next ≤ 0 → Relaxed t u (t .m) w w₁
       follow-all z =
           let h = r .most in

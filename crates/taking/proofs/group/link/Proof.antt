@@ -64,7 +64,7 @@ loop-less c = omega arith
 loop-again : tie.Need-loop-again Inv-loop μ-loop
 loop-again c =
     let loop = c .before .before .before in
-    link-one (loop .before .pre) (loop .loop .starts) (loop .loop .nexts) (loop .loop .left) (c .before .before .loop-test .taken) (loop .loop .inv)
+    link-one (loop .before .pre) (loop .loop .left) (c .before .before .loop-test .taken) (loop .loop .inv)
 
 same-length : tie.Need-same-length Inv-loop μ-loop
 same-length c = c .before .loop .inv .start-size
@@ -73,7 +73,7 @@ same-length-2 : tie.Need-same-length-2 Inv-loop μ-loop
 same-length-2 c = c .before .loop .inv .next-size
 
 returns : tie.Need-returns Inv-loop μ-loop
-returns c = link-all (c .before .before .pre) (c .before .loop .starts) (c .before .loop .nexts) (c .before .loop .left) (c .loop-test .left) (c .before .loop .inv)
+returns c = link-all (c .before .before .pre) (c .loop-test .left) (c .before .loop .inv)
 
 pub link-spec : {M : Type 1} → statement M
 link-spec =
