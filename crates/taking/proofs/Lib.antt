@@ -7,5 +7,5 @@ mod Starting
 mod Following
 -- the open node that goes next
 mod Choosing
--- arcs in the order of their tails, and the bisection
-mod Grouping
+-- the arcs of a node in a chain
+mod Chaining
