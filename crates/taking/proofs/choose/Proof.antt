@@ -30,7 +30,7 @@ loop-holds : tie.Need-loop-holds Inv-loop μ-loop
 loop-holds c = let s = c .before .before .before in keep-none (lent s) (s .args .work .now) (s .args .tree .now) (s .pre .1 .1 .1 .0)
 
 first-open-requires : tie.Need-first-open-requires Inv-loop μ-loop
-first-open-requires c κs = let loop = c .before in (loop .loop .inv .stands .room, start loop .pre .0 .0)
+first-open-requires c κs = let loop = c .before in (loop .loop .inv .stands .room, start loop .pre .0)
 
 enum-known-v : tie.Need-enum-known-v Inv-loop μ-loop
 enum-known-v c = search needs
