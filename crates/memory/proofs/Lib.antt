@@ -4,12 +4,13 @@ pub mod Holds
 pub mod Lines
 -- what it holds after a write
 pub mod Writes
+-- the quarters, set to 0
+mod Cleared
+-- the sites side by side
+pub mod Aims
 -- the scan of the code: the closest site
 mod Closest
--- the tree of the open nodes: who stands where, who at its top, and what writes change
-pub mod TreePlaces
-pub mod TreeRoot
+-- the tree of the open nodes: after writes, settled anew, and who stands at its top
 pub mod TreeChanges
--- the winner of two, and the places of one path settled
-mod TreeWinner
 mod TreeReplay
+mod TreeTop

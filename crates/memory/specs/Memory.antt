@@ -1,6 +1,6 @@
 -- The work memory of a search, in four quarters of n entries. Of node v: entry v is one more than its best length so far, and 0 while it has not been seen;
 -- entry n + v is what it is compared by beside its length while it is open, and 0 while it isn't; entry n + n + v is the number of the node before it on the
--- route, and 0 where there is none. The last quarter has the open nodes in a tree (Tree).
+-- route, and 0 where there is none. The last quarter isn't used. The open nodes stand in a tree beside the memory (Tree).
 use mathlib.Core.Bool.{Bool, not, cond, _&&_}
 use mathlib.Core.List.{List}
 use mathlib.Core.Option.{Option, none, some}

@@ -1,10 +1,13 @@
 // The work memory of a search: what stands where (specs/Memory, specs/Tree), the open node that goes next, and the estimate of a node.
 ghost use mathlib.Core.Path.{_≡_};
-ghost use Prim.Native.Nat.{_+_, _-_, _*_, _≤_, _<_};
+ghost use Prim.Native.Nat.{_+_, _-_, _*_, _%_, _≤_, _<_};
+ghost use lib.Dec.{eqb};
 ghost use lib.ListN.{length, getD, replicate};
 ghost use Rattle.meaning.specs.Search.{over};
 ghost use Rattle.memory.specs.Memory.{isTaken, keyAt, SiteTold};
 pub use estimate::aim;
+pub use estimate::forget;
+pub use estimate::gather;
 use straight::Line;
 use straight::Road;
 pub use tree::first_open;
@@ -24,11 +27,13 @@ pub fn clear(work: &mut [u32], n: usize)
     requires { ⌜ 4 * n ≤ length (now work) ⌝ }
     ensures { λ r. ⌜ now (work .exit) ≡ over (replicate (4 * n) 0) (now (work .entry)) ⌝ }
 {
-    let end = 4 * n;
-    let mut i = 0;
-    while i < end {
-        work[i] = 0;
-        i += 1;
+    let mut v = 0;
+    while v < n {
+        work[v] = 0;
+        work[n + v] = 0;
+        work[n + n + v] = 0;
+        work[n + n + n + v] = 0;
+        v += 1;
     }
 }
 
@@ -58,6 +63,7 @@ pub fn road_at(work: &[u32], n: usize, v: usize) -> Road
 // Whether the open node v is a site.
 pub fn is_rival_site(work: &[u32], n: usize, v: usize) -> bool
     requires { ⌜ (4 * n ≤ length (now work)) × (v < n) ⌝ }
+    ensures { λ r. ⌜ r ≡ eqb (getD (now (work .entry)) (n + v) 0 % 2) 0 ⌝ }
     ensures { λ r. ⌜ SiteTold n (now (work .entry)) v r ⌝ }
 {
     work[n + v] % 2 == 0
@@ -75,7 +81,7 @@ pub fn before(work: &[u32], n: usize, v: usize) -> usize
 fn key(work: &[u32], n: usize, v: usize) -> u64
     requires { ⌜ (4 * n ≤ length (now work)) × (v < n) ⌝ }
     requires { ⌜ 0 < getD (now work) (n + v) 0 ⌝ }
-    ensures { λ r. ⌜ r ≡ keyAt n (now (work .entry)) v ⌝ }
+    ensures { λ r. ⌜ (r ≡ keyAt n (now (work .entry)) v) × (r < 17179869184) ⌝ }
 {
     let rival = work[n + v] - 1;
     let site = rival % 2;

@@ -1,104 +1,55 @@
-// The open nodes in a winner tree (specs/Tree): the one that goes next stands at its top, and a node whose entries were written is played again on its way there.
+// The open nodes in a winner tree (specs/Tree), beside the work memory: the one that goes next stands at its top, and a node whose entries were written is played
+// again on its way there.
 ghost use mathlib.Core.Path.{_≡_};
-ghost use Prim.Native.Nat.{_+_, _*_, _/_, _≤_, _<_};
+ghost use Prim.Native.Nat.{_+_, _*_, _≤_, _<_, max};
 ghost use lib.ListN.{length};
-ghost use Rattle.meaning.specs.Scan.{first};
-ghost use Rattle.memory.specs.Memory.{keyAt, nextOf};
-ghost use Rattle.memory.specs.Tree.{openAt, champion as championOf, winner as winnerOf, besideOf, stays as staysOf, Stands, Tree, But, Outside};
+ghost use Rattle.memory.specs.Tree.{Tree, But, Ranked, Topped};
 use crate::Next;
 use crate::key;
 
-// Who stands at place j: 0 for nobody, or one more than the node.
-fn champion(work: &[u32], n: usize, j: usize) -> usize
-    requires { ⌜ (4 * n ≤ length (now work)) × (j < n + n) ⌝ }
-    ensures { λ r. ⌜ r ≡ championOf n (now (work .entry)) j ⌝ }
+// What a node stands in the tree with: the sooner it goes, the more; 0 where it isn't open.
+fn rank(work: &[u32], n: usize, v: usize) -> u64
+    requires { ⌜ (4 * n ≤ length (now work)) × ((v < n) × (n ≤ 1024)) ⌝ }
+    ensures { λ r. ⌜ Ranked n (now (work .entry)) v r ⌝ }
 {
-    if j < n {
-        return work[n + n + n + j] as usize;
-    }
-    if work[j] == 0 {
+    if work[n + v] == 0 {
         return 0;
     }
-    j - n + 1
+    (17179869184 - key(work, n, v)) * 65536 + (65535 - v as u64)
 }
 
-// Of two that stand somewhere the one with the lower key, and among equal keys the lower number.
-fn winner(work: &[u32], n: usize, a: usize, b: usize) -> usize
-    requires { ⌜ 4 * n ≤ length (now work) ⌝ }
-    requires { ⌜ Stands n (now work) a ⌝ }
-    requires { ⌜ Stands n (now work) b ⌝ }
-    ensures { λ r. ⌜ r ≡ winnerOf (keyAt n (now (work .entry))) a b ⌝ }
+fn larger(a: u64, b: u64) -> u64
+    ensures { λ r. ⌜ r ≡ max a b ⌝ }
 {
-    if b == 0 {
-        return a;
-    }
-    if a == 0 {
-        return b;
-    }
-    let first = key(work, n, a - 1);
-    let second = key(work, n, b - 1);
-    if second < first {
-        return b;
-    }
-    if first < second {
-        return a;
-    }
-    if b < a {
-        return b;
-    }
-    a
-}
-
-// The winner of best, which stands at place i, and who stands beside it.
-fn meet(work: &[u32], n: usize, i: usize, best: usize) -> usize
-    requires { ⌜ (4 * n ≤ length (now work)) × ((2 ≤ i) × (i < n + n)) ⌝ }
-    requires { ⌜ Stands n (now work) best ⌝ }
-    requires { ⌜ Stands n (now work) (championOf n (now work) (besideOf i)) ⌝ }
-    ensures { λ r. ⌜ r ≡ winnerOf (keyAt n (now (work .entry))) best (championOf n (now (work .entry)) (besideOf i)) ⌝ }
-{
-    let rival = champion(work, n, i + 1 - 2 * (i % 2));
-    winner(work, n, best, rival)
-}
-
-// Whether nothing changes from place i upwards, where best is to stand: it stands there, and isn't the node that was written.
-fn stays(work: &[u32], n: usize, v: usize, i: usize, best: usize) -> bool
-    requires { ⌜ (4 * n ≤ length (now work)) × ((v < n) × (i < n)) ⌝ }
-    ensures { λ r. ⌜ r ≡ staysOf n (now (work .entry)) v i best ⌝ }
-{
-    if best == v + 1 {
-        return false;
-    }
-    work[n + n + n + i] as usize == best
+    if a < b { b } else { a }
 }
 
 // The open node with the least key; among equals the lower number.
-pub fn first_open(work: &[u32], n: usize) -> Next
-    requires { ⌜ (4 * n ≤ length (now work)) × (1 ≤ n) ⌝ }
-    requires { ⌜ Tree n (now work) ⌝ }
-    ensures { λ r. ⌜ r ≡ nextOf (first (openAt n (now (work .entry))) (keyAt n (now (work .entry))) n) ⌝ }
+pub fn first_open(tree: &[u64], n: usize) -> Next
+    requires { ⌜ (n + n ≤ length (now tree)) × ((1 ≤ n) × (n ≤ 1024)) ⌝ }
+    ensures { λ r. ⌜ Topped n (now (tree .entry)) r ⌝ }
 {
-    let top = champion(work, n, 1);
+    let top = tree[1];
     if top == 0 {
         return Next::Nothing;
     }
-    Next::Node(top - 1)
+    Next::Node(65535 - (top % 65536) as usize)
 }
 
-// The places above the leaf of node v, whose entries were written, are settled anew, as far up as anything changes.
-pub fn replay(work: &mut [u32], n: usize, v: usize)
-    requires { ⌜ (4 * n ≤ length (now work)) × ((v < n) × (n ≤ 100000)) ⌝ }
-    requires { ⌜ But n (now work) v ((n + v) / 2) ⌝ }
-    ensures { λ r. ⌜ Tree n (now (work .exit)) ⌝ }
-    ensures { λ r. ⌜ Outside n (now (work .entry)) (now (work .exit)) ⌝ }
+// The leaf of node v, whose entries were written, and the places above it are settled anew, as far up as anything changes.
+pub fn replay(work: &[u32], n: usize, v: usize, tree: &mut [u64])
+    requires { ⌜ (4 * n ≤ length (now work)) × ((v < n) × (n ≤ 1024)) ⌝ }
+    requires { ⌜ But n (now work) v (now tree) ⌝ }
+    ensures { λ r. ⌜ Tree n (now (work .entry)) (now (tree .exit)) ⌝ }
 {
     let mut i = n + v;
-    let mut best = champion(work, n, i);
+    tree[i] = rank(work, n, v);
     while 1 < i {
-        best = meet(work, n, i, best);
         i = i / 2;
-        if stays(work, n, v, i, best) {
+        let best = larger(tree[i + i], tree[i + i + 1]);
+        if tree[i] == best {
             return;
         }
-        work[n + n + n + i] = best as u32;
+        tree[i] = best;
     }
 }

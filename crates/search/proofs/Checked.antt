@@ -5,7 +5,7 @@ use Prim.Native.Nat.{ℕ, _-_, _≤_, _<_}
 use native.Mathlib.Omega.{arith}
 use borrow.Author.Tests.{leb-true}
 use lib.Dec.{leb}
-use lib.ListN.{length}
+use lib.ListN.{length, replicate, getD-replicate}
 use Rattle.meaning.specs.Limits.{base}
 use Rattle.meaning.specs.Checks.{tablesFit}
 use Rattle.meaning.specs.Region.{Tables, regionOf}
@@ -15,7 +15,8 @@ use Rattle.meaning.proofs.Relaxing.{Setting}
 use Rattle.meaning.proofs.Passed.{Sound, sound, sound-setting}
 use Rattle.meaning.proofs.Outcomes.{aim-fits}
 use Rattle.memory.specs.Aim.{Ground}
-use Rattle.taking.specs.Ways.{Arcs}
+use Rattle.memory.specs.Tree.{Bare}
+use Rattle.taking.specs.Ways.{Arcs, Tailed}
 use Rattle.search.specs.Run.{Passed}
 
 record Rows (t : Tables) : Type 0 where
@@ -58,6 +59,9 @@ module _ {t : Tables} {q k : ℕ} (P : Passed t q k) where
   pub few : t .n ≤ 1024
   few = S .nodes .1
 
+  pub few-sites : t .s ≤ 128
+  few-sites = S .sites
+
   pub ground : Ground (t .xs) (t .ys) (t .sites) (t .n) (t .s)
   ground =
       let r = rows t (S .tables) in
@@ -81,3 +85,20 @@ module _ {t : Tables} {q k : ℕ} (P : Passed t q k) where
         head-high = λ i l. S .good i l .fine .head-high;
         light = λ i l. S .good i l .fine .weight-high;
       }
+
+  -- the lists that a search has beside the work memory are wide enough, and empty at first
+  pub tailed : Tailed (t .tails) (t .n) (t .m) (replicate 1024 0) (replicate 4096 0)
+  tailed =
+      let r = rows t (S .tables) in
+      record {
+        few = S .arcs;
+        tail-room = r .tails;
+        start-room = few;
+        next-room = S .arcs;
+        tail-low = λ i l. S .good i l .fine .tail-low;
+        tail-high = λ i l. S .good i l .fine .tail-high;
+        bare = λ v l. getD-replicate 1024 v 0 0 (omega (arith, few));
+      }
+
+  pub bare : Bare (t .n) (replicate 2048 0)
+  bare = record { room = omega (arith, few); none = λ j l. getD-replicate 2048 j 0 0 (omega (arith, few)) }

@@ -7,15 +7,16 @@ use mathlib.Core.List.{List, [], _∷_, _++_, map, append-assoc}
 use Prim.Native.Nat.{ℕ, zero, suc, _+_, _-_, _*_, _≤_, _<_}
 use native.Mathlib.Numerals.{add-one}
 use native.Mathlib.Omega.{arith}
-use borrow.Author.Tests.{le-leb, lt-leb, ltb-false}
+use borrow.Author.Tests.{le-leb, lt-leb, ltb-true, ltb-false}
 use lib.Dec.{T, not-T, leb, ltb}
+use lib.IntN.{ℤ}
 use lib.ListN.{length, getD, set, drop, replicate, length-append, length-map}
 use lib.Seq.{drop-cons, set-append-seam}
 use Rattle.meaning.specs.Scan.{any}
 use Rattle.meaning.specs.Region.{Tables, regionOf, isSite}
 use Rattle.meaning.specs.Taking.{State, memb, taken, isOpen, aimed, lenAt, toSites, sitesOf, mark, take1, takeAt, start, full, choose, next, after, keyIn}
 use Rattle.meaning.specs.Search.{over, aimOf}
-use Rattle.meaning.proofs.Bools.{T-true, or-left, or-right, and-make}
+use Rattle.meaning.proofs.Bools.{T-true, or-left, or-right, and-both, and-make}
 use Rattle.meaning.proofs.Counting.{count}
 use Rattle.meaning.proofs.Scans.{First, first-is, any-is}
 use Rattle.meaning.proofs.Orders.{memb-head, memb-tail}
@@ -28,9 +29,11 @@ use Rattle.memory.specs.declared.Next.{Next}
 use Rattle.memory.specs.declared.Next.the-variants.{Node, Nothing}
 use Rattle.memory.specs.Memory.{SiteTold, nextOf}
 use Rattle.memory.specs.Tree.{Tree}
+use Rattle.memory.proofs.Holds.{site-is}
+use Rattle.memory.specs.Aim.{Aims}
 use Rattle.taking.specs.Ways.{Bounded}
 use Rattle.taking.specs.Parents.{parents1, parentsNext, parentsAfter}
-use Rattle.taking.specs.Steps.{places, Live, Took, Aiming, Stays, Chosen}
+use Rattle.taking.specs.Steps.{places, Live, OpenSite, Took, Aiming, Stays, Chosen}
 use Rattle.search.specs.Run.{Passed, stateAt, sitesAt, Put, Ran}
 use Rattle.search.proofs.Checked.{S, G}
 use Rattle.search.proofs.Left.{none-left, sites-are}
@@ -180,6 +183,15 @@ module _ {t : Tables} {q k : ℕ} (P : Passed t q k) {i : ℕ} {work listed leng
   unfolding choose
   first-of e = rw e at (first-is (isOpen here) (keyIn (regionOf t) (aimOf t) here) (t .n))
 
+  -- the node that goes next is open, and what is held of it tells whether it is a site
+  pub open-site : {u : ℕ} → choose (regionOf t) (aimOf t) here ≡ some u → OpenSite (t .sites) (t .n) (t .s) u w
+  unfolding isOpen isSite
+  open-site {u = u} e =
+      let F = first-of e in
+      let a = ran .live .holds .lens u (F .below) in
+      let l = ltb-true 0 (getD (here .best) u 0) (T-true (ltb 0 (getD (here .best) u 0)) (and-both (ltb 0 (getD (here .best) u 0)) (not (taken here u)) (F .holds) .0)) in
+      record { seen = omega arith; told = site-is (ran .live .holds) u (F .below) (F .holds) }
+
   module _ {u : ℕ} (a : c < k) (b : c < t .s) (picks : choose (regionOf t) (aimOf t) here ≡ some u) where
     state-is : stateAt t q k (suc i) ≡ take1 (regionOf t) here u
     unfolding after next takeAt
@@ -254,10 +266,13 @@ module _ {t : Tables} {q k : ℕ} (P : Passed t q k) {i : ℕ} {work listed leng
   stops-closed z = ended (inr z)
 
 -- what the loop keeps to
-pub record Going (t : Tables) (q k : ℕ) (work₀ listed₀ lengths₀ work listed lengths : List ℕ) (count taken : ℕ) : Type 0 where
+pub record Going (t : Tables) (q k : ℕ) (ax₀ : List ℤ) (tree₀ work₀ listed₀ lengths₀ : List ℕ) (ax ay : List ℤ) (tree work listed lengths : List ℕ) (count taken : ℕ) : Type 0 where
   pub most : taken ≤ t .n
   pub ran : Ran t q k taken work₀ listed₀ lengths₀ work listed lengths count taken
-  pub tree : Tree (t .n) work
+  pub tree-is : Tree (t .n) work tree
+  pub aims : Aims (t .xs) (t .ys) (t .sites) (t .n) (t .s) work ax ay
+  pub ax-kept : length ax ≡ length ax₀
+  pub tree-kept : length tree ≡ length tree₀
   pub work-kept : length work ≡ length work₀
   pub listed-kept : length listed ≡ length listed₀
   pub lengths-kept : length lengths ≡ length lengths₀

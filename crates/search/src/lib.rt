@@ -5,6 +5,8 @@ ghost use lib.ListN.{length, getD};
 ghost use Rattle.meaning.specs.Limits.{base};
 ghost use Rattle.meaning.specs.Region.{tables, rooms};
 ghost use Rattle.meaning.specs.Search.{Searched, Panelled, stretch, beginOf, between};
+ghost use Rattle.memory.specs.Tree.{Bare};
+ghost use Rattle.taking.specs.Ways.{Linked};
 ghost use Rattle.search.specs.Run.{Passed, Put, Ran};
 use meaning::Answer;
 use meaning::PANEL_K;
@@ -41,6 +43,77 @@ fn list(
 }
 
 // The taking rule, from its start to its stop. The list is filled as sites are taken.
+fn steps(
+    tails: &[u16],
+    heads: &[u16],
+    weights: &[u32],
+    xs: &[i32],
+    ys: &[i32],
+    sites: &[u16],
+    n: usize,
+    m: usize,
+    s: usize,
+    query: usize,
+    k: usize,
+    starts: &[u16],
+    nexts: &[u16],
+    ax: &mut [i32],
+    ay: &mut [i32],
+    tree: &mut [u64],
+    work: &mut [u32],
+    listed: &mut [u16],
+    lengths: &mut [u32],
+) -> Tally
+    requires { ⌜ Passed (tables (now tails) (now heads) (now weights) (now xs) (now ys) (now sites) n m s) query k ⌝ }
+    requires { ⌜ (4 * n ≤ length (now work)) × ((k ≤ length (now listed)) × (k ≤ length (now lengths))) ⌝ }
+    requires { ⌜ Linked (now tails) n m (now starts) (now nexts) ⌝ }
+    requires { ⌜ (s ≤ length (now ax)) × (s ≤ length (now ay)) ⌝ }
+    requires { ⌜ Bare n (now tree) ⌝ }
+    ensures { λ r. ⌜ Ran (tables (now (tails .entry)) (now (heads .entry)) (now (weights .entry)) (now (xs .entry)) (now (ys .entry)) (now (sites .entry)) n m s) query k n
+        (now (work .entry)) (now (listed .entry)) (now (lengths .entry)) (now (work .exit)) (now (listed .exit)) (now (lengths .exit)) (r .sites) (r .taken) ⌝ }
+{
+    taking::start(xs, ys, sites, n, s, query - 1, ax, ay, work, tree);
+    let mut count = 0;
+    let mut taken = 0;
+    while taken < n {
+        if k <= count {
+            break;
+        }
+        if s <= count {
+            break;
+        }
+        let Next::Node(u) = taking::choose(xs, ys, sites, n, s, 0 < count, ax, ay, work, tree)
+        else {
+            break;
+        };
+        let site = taking::take(
+            tails,
+            heads,
+            weights,
+            xs,
+            ys,
+            sites,
+            n,
+            m,
+            s,
+            starts,
+            nexts,
+            u,
+            ax,
+            ay,
+            work,
+            tree,
+        );
+        count = list(work, n, u, site, listed, lengths, count);
+        taken += 1;
+    }
+    Tally {
+        sites: count,
+        taken,
+    }
+}
+
+// The same, with what it needs beside the work memory: the arcs in chains, the sites side by side, and the tree of the open nodes.
 fn run(
     tails: &[u16],
     heads: &[u16],
@@ -62,41 +135,33 @@ fn run(
     ensures { λ r. ⌜ Ran (tables (now (tails .entry)) (now (heads .entry)) (now (weights .entry)) (now (xs .entry)) (now (ys .entry)) (now (sites .entry)) n m s) query k n
         (now (work .entry)) (now (listed .entry)) (now (lengths .entry)) (now (work .exit)) (now (listed .exit)) (now (lengths .exit)) (r .sites) (r .taken) ⌝ }
 {
-    taking::start(xs, ys, sites, n, s, query - 1, work);
-    let grouped = taking::grouped(tails, m);
-    let mut count = 0;
-    let mut taken = 0;
-    while taken < n {
-        if k <= count {
-            break;
-        }
-        if s <= count {
-            break;
-        }
-        let Next::Node(u) = taking::choose(xs, ys, sites, n, s, 0 < count, work) else {
-            break;
-        };
-        let site = taking::take(
-            tails,
-            heads,
-            weights,
-            xs,
-            ys,
-            sites,
-            n,
-            m,
-            s,
-            grouped,
-            u,
-            work,
-        );
-        count = list(work, n, u, site, listed, lengths, count);
-        taken += 1;
-    }
-    Tally {
-        sites: count,
-        taken,
-    }
+    let mut starts = [0u16; 1024];
+    let mut nexts = [0u16; 4096];
+    let mut ax = [0i32; 128];
+    let mut ay = [0i32; 128];
+    let mut tree = [0u64; 2048];
+    taking::link(tails, n, m, &mut starts, &mut nexts);
+    steps(
+        tails,
+        heads,
+        weights,
+        xs,
+        ys,
+        sites,
+        n,
+        m,
+        s,
+        query,
+        k,
+        &starts,
+        &nexts,
+        &mut ax,
+        &mut ay,
+        &mut tree,
+        work,
+        listed,
+        lengths,
+    )
 }
 
 // The k network-nearest sites from the query node, with lengths and routes.

@@ -1,68 +1,31 @@
 -- The square of the difference of two coordinates in range, by way of an i64.
 use mathlib.Core.Path.{_≡_, refl, sym, ap, ap₂, _∙_, subst}
 use mathlib.Core.List.{List}
-use Prim.Native.Nat.{ℕ, zero, suc, _+_, _*_, _≤_}
+use Prim.Native.Nat.{ℕ, _+_, _*_, _≤_}
 use native.Mathlib.Nat.{lt-of-le-of-lt}
 use native.Mathlib.Omega.{arith}
 use lib.Dec.{T, lit<}
-use lib.IntN.{ℤ, pos, negsuc, natAbs, negℤ, _-ℤ_, _*ℤ_, +ℤ-idl, +ℤ-idr}
+use lib.IntN.{ℤ, pos, negsuc, natAbs, _-ℤ_, _*ℤ_}
 use lib.Signed.{mag, nonNeg}
 use mir.Syntax.{w32, w64}
 use mir.Val.{Fits, SFits, toZ, ofZ}
 use mir.Facts.{toZ-ofZ, sfits-widen, sfits-toZ, fits-ofZ}
 use Rattle.meaning.specs.Straight.{gap, squares}
-use Rattle.meaning.proofs.Estimates.{gap-triangle}
-use Rattle.meaning.proofs.Roots.{sq-le}
 use Rattle.straight.specs.Points.{Placed, entry, farthest}
+use Rattle.straight.proofs.Laws.{gap-small, square-small, squares-small, back, Square, square-back}
 
--- a coordinate in range
+-- a coordinate in range, or where a place that doesn't count is put
 abbrev pub Near : ℤ → Type 0
-Near z = natAbs z ≤ 200000000
-
--- ---- no gap is above 400,000,000
-
-gap-to : (z : ℤ) → gap z (pos 0) ≡ natAbs z
-unfolding gap
-gap-to z = ap natAbs (+ℤ-idr z)
-
-neg-abs : (z : ℤ) → natAbs (negℤ z) ≡ natAbs z
-neg-abs (pos zero) = refl
-neg-abs (pos (suc n)) = refl
-neg-abs (negsuc n) = refl
-
-gap-from : (z : ℤ) → gap (pos 0) z ≡ natAbs z
-unfolding gap
-gap-from z = ap natAbs (+ℤ-idl (negℤ z)) ∙ neg-abs z
-
-gap-small : (a b : ℤ) → Near a → Near b → gap a b ≤ 400000000
-gap-small a b p q = let t = gap-triangle a (pos 0) b in let d = gap-to a in let e = gap-from b in omega arith
-
-square-small : (a b : ℤ) → Near a → Near b → gap a b * gap a b ≤ 160000000000000000
-square-small a b p q = sq-le (gap a b) 400000000 (gap-small a b p q)
-
--- ---- what the machine reads back is the number itself
-
--- a number of 32 bits that was passed on
-abbrev pub back : ℤ → ℤ
-back z = toZ w32 (ofZ w32 z)
-
-abbrev Square : ℕ → ℤ → ℤ → Type 0
-Square r a b = r ≡ gap a b * gap a b
-
-square-back : {r : ℕ} {a b : ℤ} → SFits w32 a → SFits w32 b → Square r (back a) (back b) → Square r a b
-square-back {r} {a} {b} f g e = e ∙ ap (λ (z : ℤ). gap z (back b) * gap z (back b)) (toZ-ofZ f) ∙ ap (λ (z : ℤ). gap a z * gap a z) (toZ-ofZ g)
+Near z = natAbs z ≤ 1000000000
 
 -- the two squares of two nodes, which were passed on
 pub sum-is : {xs ys : List ℤ} {a b r s : ℕ} → Placed xs ys a → Placed xs ys b
     → SFits w32 (entry xs a) → SFits w32 (entry xs b) → SFits w32 (entry ys a) → SFits w32 (entry ys b)
     → Square r (back (entry xs a)) (back (entry xs b)) → Square s (back (entry ys a)) (back (entry ys b))
     → (r + s ≡ squares (entry xs) (entry ys) a b) × (r + s ≤ farthest)
-sum-is {xs} {ys} {a} {b} p q f g h k d e =
-    let x = square-back f g d in
-    let y = square-back h k e in
-    let l = square-small (entry xs a) (entry xs b) (p .x-near) (q .x-near) in
-    let m = square-small (entry ys a) (entry ys b) (p .y-near) (q .y-near) in
-    (ap₂ _+_ x y, omega arith)
+sum-is {xs} {ys} {a} {b} {r} {s} p q f g h k d e =
+    let is : r + s ≡ squares (entry xs) (entry ys) a b = ap₂ _+_ (square-back f g d) (square-back h k e) in
+    (is, rw is (squares-small p q))
 
 -- and cast to 64 bits
 abbrev pub wide : ℤ → ℤ
@@ -83,12 +46,15 @@ square-up (pos n) = refl
 square-up (negsuc n) = refl
 
 module _ (a b : ℤ) (fa : SFits w32 a) (fb : SFits w32 b) (na : Near a) (nb : Near b) where
+  sum-near : natAbs a + natAbs b ≤ 2000000000
+  sum-near = omega arith
+
   same-diff : wide a -ℤ wide b ≡ a -ℤ b
   same-diff = ap (λ (z : ℤ). z -ℤ wide b) (wide-is a fa) ∙ ap (λ (z : ℤ). a -ℤ z) (wide-is b fb)
 
   pub diff-fits : SFits w64 (wide a -ℤ wide b)
   unfolding gap
-  diff-fits = subst (SFits w64) (sym same-diff) (record { sfits = lt-of-le-of-lt (mag-abs (a -ℤ b)) (lt-of-le-of-lt (gap-small a b na nb) (lit< tt)) })
+  diff-fits = subst (SFits w64) (sym same-diff) (record { sfits = lt-of-le-of-lt (mag-abs (a -ℤ b)) (lt-of-le-of-lt (gap-small a b 2000000000 sum-near) (lit< tt)) })
 
   abbrev pub away : ℤ
   away = toZ w64 (ofZ w64 (wide a -ℤ wide b))
@@ -98,7 +64,7 @@ module _ (a b : ℤ) (fa : SFits w32 a) (fb : SFits w32 b) (na : Near a) (nb : N
   square-is = ap (λ (z : ℤ). z *ℤ z) (toZ-ofZ diff-fits ∙ same-diff) ∙ square-up (a -ℤ b)
 
   pub square-fits : SFits w64 (away *ℤ away)
-  square-fits = subst (SFits w64) (sym square-is) (record { sfits = lt-of-le-of-lt (square-small a b na nb) (lit< tt) })
+  square-fits = subst (SFits w64) (sym square-is) (record { sfits = lt-of-le-of-lt (square-small a b 2000000000 sum-near) (lit< tt) })
 
   abbrev pub product : ℤ
   product = toZ w64 (ofZ w64 (away *ℤ away))
@@ -110,4 +76,4 @@ module _ (a b : ℤ) (fa : SFits w32 a) (fb : SFits w32 b) (na : Near a) (nb : N
   product-abs = ap natAbs product-is
 
   pub product-up : T (nonNeg product) × Fits w64 (natAbs product)
-  product-up = rw product-is (tt, record { fits = lt-of-le-of-lt (square-small a b na nb) (lit< tt) })
+  product-up = rw product-is (tt, record { fits = lt-of-le-of-lt (square-small a b 2000000000 sum-near) (lit< tt) })

@@ -29,8 +29,8 @@ pub fn root(x: u64) -> u64
 }
 
 // The square of the difference of two coordinates.
-fn apart(a: i32, b: i32) -> u64
-    requires { ⌜ (natAbs a ≤ 200000000) × (natAbs b ≤ 200000000) ⌝ }
+pub fn apart(a: i32, b: i32) -> u64
+    requires { ⌜ (natAbs a ≤ 1000000000) × (natAbs b ≤ 1000000000) ⌝ }
     ensures { λ r. ⌜ r ≡ gap a b * gap a b ⌝ }
 {
     let d = (a as i64) - (b as i64);

@@ -4,9 +4,8 @@ use mathlib.Core.List.{List}
 use mathlib.Core.Option.{Option, none, some}
 use mathlib.Core.Path.{_≡_, refl, sym, ap, _∙_}
 use Prim.Native.Nat.{ℕ, _+_, _≤_, _<_}
-use native.Mathlib.Decide.{decLt}
 use native.Mathlib.Omega.{arith}
-use borrow.Author.Tests.{eq-eqb, ne-eqb, lt-ltb, le-ltb}
+use borrow.Author.Tests.{eq-eqb, ne-eqb, lt-ltb}
 use lib.Dec.{T, eqb, ltb}
 use lib.ListN.{length, getD, set}
 use lib.Seq.{getD-set-same, getD-set-other}
@@ -14,19 +13,18 @@ use Rattle.meaning.specs.Scan.{first}
 use Rattle.meaning.specs.Region.{Tables, regionOf, isSite}
 use Rattle.meaning.specs.Taking.{State, isOpen, aimed, keyIn, choose}
 use Rattle.meaning.specs.Search.{aimOf}
-use Rattle.meaning.proofs.Bools.{T-false}
 use Rattle.meaning.proofs.Counting.{count, count-more}
 use Rattle.meaning.proofs.Scans.{First, IsFirst, first-is}
 use Rattle.memory.specs.declared.Next.the-variants.{Node, Nothing}
 use Rattle.memory.specs.Memory.{rivalOf, isTaken, keyAt, nextOf}
-use Rattle.memory.specs.Aim.{Ground}
-use Rattle.memory.specs.Tree.{openAt, Tree, Outside}
+use Rattle.memory.specs.Aim.{Ground, SameTaken}
+use Rattle.memory.specs.Tree.{openAt, Tree, Elsewhere}
 use Rattle.memory.proofs.Holds.{rival-is, open-is, key-is}
 use Rattle.memory.proofs.Lines.{line-is}
 use Rattle.memory.proofs.Writes.{lineWith, held-aim}
-use Rattle.memory.proofs.TreeChanges.{outside-held}
+use Rattle.memory.proofs.TreeChanges.{else-none, else-rival}
 use Rattle.taking.specs.Steps.{Live, rivalAt, Aiming, Stays}
-use Rattle.taking.proofs.Reaching.{with-present, with-same}
+use Rattle.taking.proofs.Reaching.{rival-not-taken, else-taken, with-present, with-same}
 
 -- ---- what a scan found
 
@@ -57,11 +55,7 @@ top-is n w v e = found-node (openAt n w) (keyAt n w) n (first (openAt n w) (keyA
 
 -- an open node has not been taken
 pub open-not-taken : (n : ℕ) (w : List ℕ) (v : ℕ) → T (openAt n w v) → isTaken n w v ≡ false
-open-not-taken n w v o = rw (T-false (eqb (getD w (n + v) 0) 0) o) (go (not (eqb (getD w v 0) 0)))
-  where
-    go : (b : Bool) → b && false ≡ false
-    go true = refl
-    go false = refl
+open-not-taken n w v o = rival-not-taken n v w (λ e. rw (eq-eqb (getD w (n + v) 0) 0 e) at o)
 
 -- ---- in a state that the memory holds
 
@@ -133,14 +127,23 @@ module _ (t : Tables) (g : Ground (t .xs) (t .ys) (t .sites) (t .n) (t .s)) {s :
         same u l o = rw (key-is (L .holds) u l o, L .exact a u)
 
     -- its estimate has risen, and is stored
-    module _ {w' : List ℕ} (O : Outside (t .n) (set w (t .n + v) (rivalAt t w v)) w') where
+    module _ {w' : List ℕ} (e : w' ≡ set w (t .n + v) (rivalAt t w v)) where
+      here : getD w' (t .n + v) 0 ≡ rivalAt t w v
+      here = let l = F .below in rw e (getD-set-same w (t .n + v) (rivalAt t w v) 0 (omega (arith, L .holds .room)))
+
       pub raised : Live t s from rest w'
       raised = record {
         line = lineWith (L .line) v (aim v);
-        holds = outside-held O (rw (present t g L v) (held-aim (L .holds) v (F .below) (open-here v (F .below) (F .holds)) (aim v)));
+        holds = rw (e, present t g L v) (held-aim (L .holds) v (F .below) (open-here v (F .below) (F .holds)) (aim v));
         low = λ j m x. with-present (L .line) aim v x (L .low j m x);
         exact = λ a x. with-same (L .line) aim v x (L .exact a x);
       }
+
+      pub raised-taken : SameTaken (t .n) w w'
+      raised-taken =
+          let h = here in
+          let E : Elsewhere (t .n) v w w' = rw e (else-rival (else-none (t .n) v w) (F .below) (rivalAt t w v)) in
+          else-taken E (open-not-taken (t .n) w v (F .holds)) (λ z. omega arith)
 
       -- so one node fewer is held otherwise
       pub fewer : (getD w (t .n + v) 0 ≡ rivalAt t w v → ⊥) → count (stale t w') (t .n) < count (stale t w) (t .n)
@@ -149,34 +152,29 @@ module _ (t : Tables) (g : Ground (t .xs) (t .ys) (t .sites) (t .n) (t .s)) {s :
           same : (x : ℕ) → rivalAt t w' x ≡ rivalAt t w x
           same x = present t g raised x ∙ sym (present t g L x)
 
-          here : getD w' (t .n + v) 0 ≡ rivalAt t w' v
-          here =
-              let l = F .below in
-              O .low (t .n + v) (omega arith) ∙ getD-set-same w (t .n + v) (rivalAt t w v) 0 (omega (arith, L .holds .room)) ∙ sym (same v)
-
           after : stale t w' v ≡ false
-          after = rw (lt-ltb v (t .n) (F .below), eq-eqb (getD w' (t .n + v) 0) (rivalAt t w' v) here)
+          after = rw (lt-ltb v (t .n) (F .below), eq-eqb (getD w' (t .n + v) 0) (rivalAt t w' v) (here ∙ sym (same v)))
 
           before : stale t w v ≡ true
           before = rw (lt-ltb v (t .n) (F .below), ne-eqb (getD w (t .n + v) 0) (rivalAt t w v) z)
 
           other : (x : ℕ) → (x ≡ v → ⊥) → stale t w x ≡ stale t w' x
-          other x d = go (decLt x (t .n))
-            where
-              go : Dec (x < t .n) → stale t w x ≡ stale t w' x
-              go (yes k) = rw (O .low (t .n + x) (omega arith), getD-set-other w (t .n + v) (t .n + x) (rivalAt t w v) 0 (λ e. d (omega arith)), same x)
-              go (no k) = rw (le-ltb x (t .n) (omega arith))
+          other x d =
+              let h : getD w' (t .n + x) 0 ≡ getD w (t .n + x) 0 = rw e (getD-set-other w (t .n + v) (t .n + x) (rivalAt t w v) 0 (λ e. d (omega arith))) in
+              rw (h, same x)
 
 -- ---- the loop
 
 -- estimates have been stored, and the same state is held
-pub record Keeping (t : Tables) (w₀ w : List ℕ) : Type 0 where
+pub record Keeping (t : Tables) (w₀ tree₀ w tree : List ℕ) : Type 0 where
   pub size : length w ≡ length w₀
-  pub tree : Tree (t .n) w
+  pub tree-size : length tree ≡ length tree₀
+  pub stands : Tree (t .n) w tree
+  pub same : SameTaken (t .n) w₀ w
   pub stays : Stays t w₀ w
 
-pub keep-none : (t : Tables) (w : List ℕ) → Tree (t .n) w → Keeping t w w
-keep-none t w tree = record { size = refl; tree = tree; stays = λ s from rest j m L. L }
+pub keep-none : (t : Tables) (w tree : List ℕ) → Tree (t .n) w tree → Keeping t w tree w tree
+keep-none t w tree T = record { size = refl; tree-size = refl; stands = T; same = λ v l. refl; stays = λ s from rest j m L. L }
 
-pub held : (t : Tables) {w₀ w : List ℕ} (A : Aiming t w₀) → Keeping t w₀ w → Live t (A .state) (A .from) (A .rest) w
+pub held : (t : Tables) {w₀ tree₀ w tree : List ℕ} (A : Aiming t w₀) → Keeping t w₀ tree₀ w tree → Live t (A .state) (A .from) (A .rest) w
 held t A K = K .stays (A .state) (A .from) (A .rest) (A .left) (A .aims) (A .live)

@@ -2,11 +2,13 @@
 use mathlib.Core.Bool.{Bool, true, false, not, _||_}
 use mathlib.Core.List.{List}
 use mathlib.Core.Path.{_≡_, refl, ap, fun-ext, _∙_}
-use Prim.Native.Nat.{ℕ, _+_, _/_, _<_}
+use Prim.Native.Nat.{ℕ, _+_, _*_, _≤_, _<_}
+use native.Mathlib.Decide.{ℕ-discrete}
 use native.Mathlib.Omega.{arith}
+use borrow.Author.Tests.{eq-eqb, ne-eqb}
 use lib.Dec.{T, eqb}
-use lib.ListN.{set}
-use lib.Seq.{getD-set-other}
+use lib.ListN.{length, getD, set}
+use lib.Seq.{getD-set-same, getD-set-other}
 use Rattle.meaning.specs.Region.{Tables, Region, regionOf, isSite, xAt, yAt}
 use Rattle.meaning.specs.Straight.{straight}
 use Rattle.meaning.specs.Taking.{State, taken, memb, isOpen, aimed, mark}
@@ -14,21 +16,35 @@ use Rattle.meaning.specs.Search.{aimOf}
 use Rattle.meaning.proofs.Bools.{and-both, and-make, nor-both}
 use Rattle.meaning.proofs.Estimates.{sites-mono}
 use Rattle.meaning.proofs.Relaxing.{aimed-site}
-use Rattle.memory.specs.Tree.{Tree, But, Outside}
+use Rattle.memory.specs.Memory.{isTaken}
+use Rattle.memory.specs.Tree.{Tree, But}
 use Rattle.memory.proofs.Writes.{held-close}
-use Rattle.memory.proofs.TreeChanges.{else-none, else-rival, tree-changed, outside-held}
-use Rattle.taking.specs.Steps.{Live, SameLens, Closed}
+use Rattle.memory.proofs.TreeChanges.{else-none, else-rival, tree-but}
+use Rattle.taking.specs.Steps.{Live, SameLens, Shut, Closed}
 
--- entry n + v is written, and then the tree
+-- entry n + v is written
 module _ (n v r : ℕ) (w : List ℕ) (l : v < n) where
-  pub rival-tree : Tree n w → But n (set w (n + v) r) v ((n + v) / 2)
-  rival-tree t = tree-changed t (else-rival (else-none n v w) l r)
+  pub rival-tree : {t : List ℕ} → Tree n w t → But n (set w (n + v) r) v t
+  rival-tree t = tree-but t (else-rival (else-none n v w) l r)
 
-  pub rival-apart : (w' : List ℕ) → Outside n (set w (n + v) r) w' → SameLens n w w'
-  rival-apart w' O x k = O .low x (omega arith) ∙ getD-set-other w (n + v) x r 0 (λ e. omega arith)
+  pub rival-apart : SameLens n w (set w (n + v) r)
+  rival-apart x k = getD-set-other w (n + v) x r 0 (λ e. omega arith)
 
-pub closed : (n u : ℕ) (w w' : List ℕ) → u < n → Outside n (set w (n + u) 0) w' → Closed n u w w'
-closed n u w w' l O site line s from rest H o = outside-held O (held-close H u l o)
+module _ (n u : ℕ) (w : List ℕ) (l : u < n) where
+  pub closed : Closed n u w (set w (n + u) 0)
+  closed site line s from rest H o = held-close H u l o
+
+  pub shut : 4 * n ≤ length w → 0 < getD w u 0 → Shut n u w (set w (n + u) 0)
+  shut room p x k = go (ℕ-discrete x u)
+    where
+      go : Dec (x ≡ u) → isTaken n (set w (n + u) 0) x ≡ (eqb x u || isTaken n w x)
+      go (yes e) =
+          let a = rival-apart n u 0 w l u l in
+          let b = getD-set-same w (n + u) 0 0 (omega arith) in
+          rw (e, a, b, ne-eqb (getD w u 0) 0 (λ z. omega arith), eq-eqb u u refl)
+      go (no z) =
+          let E = else-rival (else-none n u w) l 0 in
+          rw (E .lens x k z, E .rivals x k z, ne-eqb x u z)
 
 -- what is aimed at when u is taken was aimed at before
 aimed-less : (R : Region) (s : State) (u v : ℕ) → T (aimed R (mark s u) v) → T (aimed R s v)

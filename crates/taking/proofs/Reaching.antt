@@ -2,26 +2,65 @@
 use mathlib.Core.Bool.{Bool, true, false, not, cond, _&&_}
 use mathlib.Core.List.{List}
 use mathlib.Core.Path.{_≡_, refl, sym, ap, _∙_}
-use Prim.Native.Nat.{ℕ, zero, suc, _+_, _/_, _≤_, _<_}
+use Prim.Native.Nat.{ℕ, zero, suc, _+_, _≤_, _<_}
+use native.Mathlib.Decide.{ℕ-discrete}
 use native.Mathlib.Numerals.{add-one}
 use native.Mathlib.Omega.{arith}
 use borrow.Author.Tests.{eq-eqb, ne-eqb, lt-ltb, le-ltb}
 use lib.Dec.{T, eqb, eqb→eq, ltb}
-use lib.ListN.{getD, set}
-use lib.Seq.{set-getD}
+use lib.ListN.{length, getD, set, length-set}
+use lib.Seq.{getD-set-same, getD-set-other, set-getD}
 use Rattle.meaning.specs.Region.{Tables, regionOf, isSite}
 use Rattle.meaning.specs.Taking.{State, taken, isOpen, aimed, lower}
 use Rattle.meaning.specs.Search.{aimOf}
 use Rattle.meaning.proofs.Bools.{T-false, and-both}
 use Rattle.memory.specs.Memory.{Holds, isTaken, rivalOf}
-use Rattle.memory.specs.Aim.{Ground}
-use Rattle.memory.specs.Tree.{Tree, But, Outside}
+use Rattle.memory.specs.Aim.{Ground, SameTaken}
+use Rattle.memory.specs.Tree.{Tree, But, SameKeys, Elsewhere}
 use Rattle.memory.proofs.Holds.{open-is, taken-is}
 use Rattle.memory.proofs.Lines.{line-is}
 use Rattle.memory.proofs.Writes.{lineWith, unseen-untaken, held-lead, held-open, held-shorten}
-use Rattle.memory.proofs.TreeChanges.{else-none, else-length, else-rival, else-lead, tree-changed, outside-held}
+use Rattle.memory.proofs.TreeChanges.{else-none, else-length, else-rival, else-lead, tree-but}
 use Rattle.taking.specs.Parents.{parentAt}
 use Rattle.taking.specs.Steps.{reached, Live, Arrived, Reached, rivalAt}
+
+-- ---- who is taken
+
+-- a node that has not been seen has not been taken
+pub unseen-not-taken : (n h : ℕ) (w : List ℕ) → getD w h 0 ≡ 0 → isTaken n w h ≡ false
+unseen-not-taken n h w e = rw (eq-eqb (getD w h 0) 0 e)
+
+-- nor has one that is open
+pub rival-not-taken : (n v : ℕ) (w : List ℕ) → (getD w (n + v) 0 ≡ 0 → ⊥) → isTaken n w v ≡ false
+rival-not-taken n v w z = rw (ne-eqb (getD w (n + v) 0) 0 z) (go (not (eqb (getD w v 0) 0)))
+  where
+    go : (b : Bool) → b && false ≡ false
+    go true = refl
+    go false = refl
+
+pub keys-taken : {n : ℕ} {w w' : List ℕ} → SameKeys n w w' → SameTaken n w w'
+keys-taken S v l = rw (S .lens v l, S .rivals v l)
+
+-- node v, which isn't taken, is open after the write
+pub else-taken : {n v : ℕ} {w w' : List ℕ} → Elsewhere n v w w' → isTaken n w v ≡ false → (getD w' (n + v) 0 ≡ 0 → ⊥) → SameTaken n w w'
+else-taken {n} {v} {w} {w'} E k z x l = go (ℕ-discrete x v)
+  where
+    go : Dec (x ≡ v) → isTaken n w' x ≡ isTaken n w x
+    go (yes e) = rw e (rival-not-taken n v w' z ∙ sym k)
+    go (no d) = rw (E .lens x l d, E .rivals x l d)
+
+-- the node before h on the route is none of what nodes are compared by
+pub lead-keys : (n h a : ℕ) (w : List ℕ) → h < n → SameKeys n w (set w (n + n + h) a)
+lead-keys n h a w l = record {
+  lens = λ x k. getD-set-other w (n + n + h) x a 0 (λ e. omega arith);
+  rivals = λ x k. getD-set-other w (n + n + h) (n + x) a 0 (λ e. omega arith);
+}
+
+-- a node is opened
+pub open-taken : (n h at r : ℕ) (w : List ℕ) → h < n → n + h < length w → isTaken n w h ≡ false → 0 < r → SameTaken n w (set (set w h at) (n + h) r)
+open-taken n h at r w l room k p =
+    let e = getD-set-same (set w h at) (n + h) r 0 (rw length-set room) in
+    else-taken (else-rival (else-length (else-none n h w) l at) l r) k (λ z. omega arith)
 
 -- ---- the number before, by the length of h and that of the arc
 
@@ -95,13 +134,13 @@ module _ (n u h : ℕ) (w : List ℕ) (l : h < n) where
       rw (stays s h (getD w h 0) (omega arith) (omega arith), parent-same (taken s) u (getD w h 0) h (s .best) from (sym e), le-ltb (suc u) (getD from h 0) (omega arith)) H
 
 module _ (n u h at : ℕ) (w : List ℕ) (l : h < n) (g : at < getD w h 0) where
-  pub shorten-open : (getD w (n + h) 0 ≡ 0 → ⊥) → (w' : List ℕ) → Outside n (set (set w h at) (n + n + h) (u + 1)) w' → Arrived n u h at w w'
-  shorten-open o w' O site line s from rest p H =
+  pub shorten-open : (getD w (n + h) 0 ≡ 0 → ⊥) → Arrived n u h at w (set (set w h at) (n + n + h) (u + 1))
+  shorten-open o site line s from rest p H =
       let e = H .lens h l in
       let o′ : T (isOpen s h) = rw (← (open-is H h l), ne-eqb (getD w (n + h) 0) 0 o) tt in
       let k = open-untaken s h o′ in
       rw (moves s h at k (lower-takes (getD (s .best) h 0) at (λ z. omega arith)), parent-shorter (taken s) u at h (s .best) from (omega arith) k, ← add-one u)
-      (outside-held O (held-lead (held-shorten H h l o′ at p) h l (u + 1)))
+      (held-lead (held-shorten H h l o′ at p) h l (u + 1))
 
   pub shorten-not : getD w (n + h) 0 ≡ 0 → Arrived n u h at w w
   shorten-not o site line s from rest p H =
@@ -114,19 +153,27 @@ longer n u h at w l z g site line s from rest p H =
     let e = H .lens h l in
     rw (stays s h at (omega arith) (omega arith), parent-longer (taken s) u at h (s .best) from (omega arith) (omega arith)) H
 
--- ---- in the tree
+-- ---- in the tree, and who is taken
 
-pub shorten-tree : (n u h at : ℕ) (w : List ℕ) → h < n → Tree n w → But n (set (set w h at) (n + n + h) (u + 1)) h ((n + h) / 2)
-shorten-tree n u h at w l t = tree-changed t (else-lead (else-length (else-none n h w) l at) h (u + 1) l)
+module _ (n u h at : ℕ) (w : List ℕ) (l : h < n) where
+  pub shorten-tree : {t : List ℕ} → Tree n w t → But n (set (set w h at) (n + n + h) (u + 1)) h t
+  shorten-tree t = tree-but t (else-lead (else-length (else-none n h w) l at) h (u + 1) l)
 
-pub open-tree : (n u h at r : ℕ) (w : List ℕ) → h < n → Tree n w → But n (set (set (set w h at) (n + h) r) (n + n + h) (u + 1)) h ((n + h) / 2)
-open-tree n u h at r w l t = tree-changed t (else-lead (else-rival (else-length (else-none n h w) l at) l r) h (u + 1) l)
+  pub shorten-taken : (getD w (n + h) 0 ≡ 0 → ⊥) → SameTaken n w (set (set w h at) (n + n + h) (u + 1))
+  shorten-taken z x k =
+      let e = getD-set-other w h (n + h) at 0 (λ e. omega arith) in
+      keys-taken (lead-keys n h (u + 1) (set w h at) l) x k
+      ∙ else-taken (else-length (else-none n h w) l at) (rival-not-taken n h w z) (λ y. z (omega arith)) x k
+
+  module _ (r : ℕ) where
+    pub opened-tree : {t : List ℕ} → Tree n w t → But n (set (set (set w h at) (n + h) r) (n + n + h) (u + 1)) h t
+    opened-tree t = tree-but t (else-lead (else-rival (else-length (else-none n h w) l at) l r) h (u + 1) l)
+
+    pub opened-taken : n + h < length w → getD w h 0 ≡ 0 → 0 < r → SameTaken n w (set (set (set w h at) (n + h) r) (n + n + h) (u + 1))
+    opened-taken room z p x k =
+        keys-taken (lead-keys n h (u + 1) (set (set w h at) (n + h) r) l) x k ∙ open-taken n h at r w l room (unseen-not-taken n h w z) p x k
 
 -- ---- with the estimates
-
--- a node that has not been seen has not been taken
-pub unseen-not-taken : (n h : ℕ) (w : List ℕ) → getD w h 0 ≡ 0 → isTaken n w h ≡ false
-unseen-not-taken n h w e = rw (eq-eqb (getD w h 0) 0 e)
 
 -- the present estimates follow the taken nodes, and no node is taken
 pub arrived-live : (t : Tables) (u h at : ℕ) (w w' : List ℕ) → Arrived (t .n) u h at w w' → Reached t u h at w w'
@@ -155,9 +202,9 @@ with-same line aim v x l = go (eqb x v) (eqb→eq x v)
 
 -- a node that has not been seen is opened, with the estimate just made
 pub opened : (t : Tables) (u h at : ℕ) (w : List ℕ) → Ground (t .xs) (t .ys) (t .sites) (t .n) (t .s) → h < t .n → getD w h 0 ≡ 0
-    → (r : ℕ) → r ≡ rivalAt t w h → (w' : List ℕ) → Outside (t .n) (set (set (set w h at) (t .n + h) r) (t .n + t .n + h) (u + 1)) w' → Reached t u h at w w'
+    → (r : ℕ) → r ≡ rivalAt t w h → Reached t u h at w (set (set (set w h at) (t .n + h) r) (t .n + t .n + h) (u + 1))
 unfolding aimed taken isSite
-opened t u h at w g l z r er w' O s from rest p L =
+opened t u h at w g l z r er s from rest p L =
     let H = L .holds in
     let e : getD (s .best) h 0 ≡ 0 = sym (H .lens h l) ∙ z in
     let k = unseen-untaken H h e in
@@ -166,7 +213,7 @@ opened t u h at w g l z r er w' O s from rest p L =
     rw (moves s h at k (lower-takes (getD (s .best) h 0) at (λ y. omega arith)), parent-opened (taken s) u at h (s .best) from e p k, ← add-one u)
     (record {
       line = lineWith (L .line) h (aim h);
-      holds = outside-held O (rw i (held-lead (held-open H h l e at (aim h) p) h l (u + 1)));
+      holds = rw i (held-lead (held-open H h l e at (aim h) p) h l (u + 1));
       low = λ j m v. with-present (L .line) aim h v (L .low j m v);
       exact = λ a v. with-same (L .line) aim h v (L .exact a v);
     })

@@ -1,18 +1,17 @@
 -- What a step does to the state that the memory holds.
-use mathlib.Core.Bool.{Bool, true, false, cond}
+use mathlib.Core.Bool.{Bool, true, false, cond, _||_}
 use mathlib.Core.List.{List, []}
 use mathlib.Core.Path.{_≡_}
-use Prim.Native.Nat.{ℕ, _+_, _≤_, _<_}
-use lib.Dec.{T}
+use Prim.Native.Nat.{ℕ, _+_, _%_, _≤_, _<_}
+use lib.Dec.{T, eqb}
 use lib.IntN.{ℤ}
 use lib.ListN.{getD, set}
 use Rattle.meaning.specs.Region.{Tables, tables, regionOf, isSite}
 use Rattle.meaning.specs.Taking.{State, taken, isOpen, aimed, lenAt, lower, relaxTo, mark, take1, choose}
 use Rattle.meaning.specs.Search.{aimOf}
 use Rattle.memory.specs.declared.Next.{Next}
-use Rattle.memory.specs.Memory.{Holds, rivalOf, nextOf}
+use Rattle.memory.specs.Memory.{Holds, rivalOf, isTaken, nextOf}
 use Rattle.memory.specs.Aim.{siteIn, lineTo}
-use Rattle.memory.specs.Tree.{Outside}
 use Rattle.taking.specs.Parents.{parentAt, parentsTo, parents1}
 
 -- tables of which only the points and the sites are known; the arcs don't show in what the memory holds
@@ -64,6 +63,15 @@ Closed n u w w' =
     (site : ℕ → Bool) (line : ℕ → ℕ) (s : State) (from rest : List ℕ) → Holds n site line s from rest w → T (isOpen s u)
     → Holds n site line (mark s u) from rest w'
 
+-- u, which has been seen, is taken beside those that were
+abbrev pub Shut : ℕ → ℕ → List ℕ → List ℕ → Type 0
+Shut n u w w' = (v : ℕ) → v < n → isTaken n w' v ≡ (eqb v u || isTaken n w v)
+
+-- u is open, and what is held of it tells whether it is a site
+pub record OpenSite (sites : List ℕ) (n s u : ℕ) (w : List ℕ) : Type 0 where
+  pub seen : 0 < getD w u 0
+  pub told : eqb (getD w (n + u) 0 % 2) 0 ≡ siteIn sites s u
+
 -- the open node u is taken
 abbrev pub Took : Tables → ℕ → List ℕ → List ℕ → Type 0
 Took t u w w' =
@@ -77,7 +85,7 @@ rivalAt t w v = rivalOf (lineTo (t .xs) (t .ys) (t .sites) (t .n) (t .s) w v) (s
 -- whether the open node v is held under its present estimate, and the memory where it wasn't
 pub record Looked (t : Tables) (v : ℕ) (w w' : List ℕ) (r : Bool) : Type 0 where
   pub kept : r ≡ true → (w' ≡ w) × (getD w (t .n + v) 0 ≡ rivalAt t w v)
-  pub new : r ≡ false → Outside (t .n) (set w (t .n + v) (rivalAt t w v)) w' × (getD w (t .n + v) 0 ≡ rivalAt t w v → ⊥)
+  pub new : r ≡ false → (w' ≡ set w (t .n + v) (rivalAt t w v)) × (getD w (t .n + v) 0 ≡ rivalAt t w v → ⊥)
 
 -- the memory holds a state in which a site is left
 pub record Aiming (t : Tables) (w : List ℕ) : Type 0 where

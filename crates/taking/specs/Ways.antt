@@ -1,9 +1,9 @@
--- What the checks have shown of the arcs, where a node's arcs stand among them, and how far the lengths in the memory can be.
-use mathlib.Core.Bool.{Bool, true, _&&_}
+-- What the checks have shown of the arcs, how a node's arcs are linked, and how far the lengths in the memory can be.
+use mathlib.Core.Bool.{Bool, cond}
 use mathlib.Core.List.{List}
 use mathlib.Core.Path.{_≡_}
-use Prim.Native.Nat.{ℕ, zero, suc, _≤_, _<_}
-use lib.Dec.{leb}
+use Prim.Native.Nat.{ℕ, zero, suc, _-_, _≤_, _<_}
+use lib.Dec.{eqb}
 use lib.ListN.{length, getD}
 
 -- the first m arcs join nodes, and their weights are in range
@@ -21,25 +21,26 @@ pub record Arcs (tails heads weights : List ℕ) (n m : ℕ) : Type 0 where
 abbrev pub Bounded : ℕ → ℕ → List ℕ → Type 0
 Bounded n b w = (v : ℕ) → v < n → getD w v 0 ≤ b
 
--- each of the first m entries is at most the next
-unfoldable pub isSorted : List ℕ → ℕ → Bool
-isSorted tails zero = true
-isSorted tails (suc zero) = true
-isSorted tails (suc (suc i)) = isSorted tails (suc i) && leb (getD tails i 0) (getD tails (suc i) 0)
+-- ---- the arcs of a node in a chain
 
--- where the arcs are said to stand grouped by tail, they stand in ascending order
-abbrev pub Grouped : List ℕ → ℕ → Bool → Type 0
-Grouped tails m grouped = grouped ≡ true → isSorted tails m ≡ true
+-- of k arcs from arc i on the first that leaves `number`, as one more than its place; 0 where none does
+unfoldable pub seek : List ℕ → ℕ → ℕ → ℕ → ℕ
+seek tails number i zero = 0
+seek tails number i (suc k) = cond (eqb (getD tails i 0) number) (suc i) (seek tails number (suc i) k)
 
--- r is the first of m entries that is `number` or above, and m where there is none
-pub record FirstFrom (tails : List ℕ) (m number r : ℕ) : Type 0 where
-  pub most : r ≤ m
-  pub before : (i : ℕ) → i < r → getD tails i 0 < number
-  pub after : (i : ℕ) → r ≤ i → i < m → number ≤ getD tails i 0
+-- what linking asks of the tails and of the room
+pub record Tailed (tails : List ℕ) (n m : ℕ) (starts nexts : List ℕ) : Type 0 where
+  pub few : m ≤ 4096
+  pub tail-room : m ≤ length tails
+  pub start-room : n ≤ length starts
+  pub next-room : m ≤ length nexts
+  pub tail-low : (i : ℕ) → i < m → 1 ≤ getD tails i 0
+  pub tail-high : (i : ℕ) → i < m → getD tails i 0 ≤ n
+  pub bare : (v : ℕ) → v < n → getD starts v 0 ≡ 0
 
--- of m entries those that are `number` stand from begin to before end
-pub record Spanned (tails : List ℕ) (m number begin end : ℕ) : Type 0 where
-  pub begin-most : begin ≤ m
-  pub end-most : end ≤ m
-  pub before : (i : ℕ) → i < begin → getD tails i 0 ≡ number → ⊥
-  pub after : (i : ℕ) → end ≤ i → i < m → getD tails i 0 ≡ number → ⊥
+-- the first arc of each node, and after each arc the next with the same tail
+pub record Linked (tails : List ℕ) (n m : ℕ) (starts nexts : List ℕ) : Type 0 where
+  pub start-room : n ≤ length starts
+  pub next-room : m ≤ length nexts
+  pub first : (v : ℕ) → v < n → getD starts v 0 ≡ seek tails (suc v) 0 m
+  pub next : (i : ℕ) → i < m → getD nexts i 0 ≡ seek tails (getD tails i 0) (suc i) (m - suc i)

@@ -1,59 +1,20 @@
-// Where a node's arcs stand: found by bisection if the arcs stand in the order of their tails.
-ghost use mathlib.Core.Bool.{true};
-ghost use mathlib.Core.Path.{_≡_};
+// The arcs of each node in a chain, in the order of the table.
 ghost use Prim.Native.Nat.{_≤_};
-ghost use lib.ListN.{length};
-ghost use Rattle.taking.specs.Ways.{isSorted, Grouped, FirstFrom, Spanned};
+ghost use lib.ListN.{length, replicate};
+ghost use mathlib.Core.Path.{_≡_};
+ghost use Rattle.taking.specs.Ways.{Tailed, Linked};
 
-// The arcs from `begin` to before `end`.
-pub struct Span {
-    pub begin: usize,
-    pub end: usize,
-}
-
-// Whether the first m arcs stand in the order of their tails.
-pub fn grouped(tails: &[u16], m: usize) -> bool
-    requires { ⌜ m ≤ length (now tails) ⌝ }
-    ensures { λ r. ⌜ r ≡ isSorted (now (tails .entry)) m ⌝ }
+// For each node one more than its first arc, and for each arc one more than the next with the same tail; 0 where there is none. The last arc is linked first.
+pub fn link(tails: &[u16], n: usize, m: usize, starts: &mut [u16], nexts: &mut [u16])
+    requires { ⌜ Tailed (now tails) n m (now starts) (now nexts) ⌝ }
+    ensures { λ r. ⌜ Linked (now (tails .entry)) n m (now (starts .exit)) (now (nexts .exit)) ⌝ }
 {
-    let mut i = 1;
-    while i < m {
-        if tails[i] < tails[i - 1] {
-            return false;
-        }
-        i += 1;
+    let mut left = m;
+    while 0 < left {
+        let i = left - 1;
+        let number = tails[i] as usize;
+        nexts[i] = starts[number - 1];
+        starts[number - 1] = left as u16;
+        left = i;
     }
-    true
-}
-
-// The first of m arcs in order whose tail is `number` or above.
-fn first_from(tails: &[u16], m: usize, number: u16) -> usize
-    requires { ⌜ (m ≤ length (now tails)) × (isSorted (now tails) m ≡ true) ⌝ }
-    ensures { λ r. ⌜ FirstFrom (now (tails .entry)) m number r ⌝ }
-{
-    let mut low = 0;
-    let mut high = m;
-    while low < high {
-        let middle = low + (high - low) / 2;
-        if tails[middle] < number {
-            low = middle + 1;
-        } else {
-            high = middle;
-        }
-    }
-    low
-}
-
-// The arcs among which are all that leave node `number`: all m of them where they don't stand in order.
-pub fn arcs_of(tails: &[u16], m: usize, number: u16, grouped: bool) -> Span
-    requires { ⌜ (m ≤ length (now tails)) × (number ≤ 1024) ⌝ }
-    requires { ⌜ Grouped (now tails) m grouped ⌝ }
-    ensures { λ r. ⌜ Spanned (now (tails .entry)) m number (r .begin) (r .end) ⌝ }
-{
-    if !grouped {
-        return Span { begin: 0, end: m };
-    }
-    let begin = first_from(tails, m, number);
-    let end = first_from(tails, m, number + 1);
-    Span { begin, end }
 }

@@ -1,21 +1,16 @@
-use mathlib.Core.List.{_++_}
-use mathlib.Core.Path.{_≡_, ap, _∙_}
-use Prim.Native.Nat.{_-_, _*_, _≤_}
+use Prim.Native.Nat.{_-_, _≤_}
 use native.Mathlib.Omega.{arith}
-use borrow.Author.Fill.{fill-more}
-use lib.ListN.{length, set, drop, replicate, length-set, length-replicate}
 use borrow.Author.Needs.{needs}
+use lib.ListN.{length-set}
+use Rattle.memory.proofs.Cleared.{Cleared, cleared-more, cleared-all}
 use Rattle.memory.proofs.clear.Statement.{statement}
 use Rattle.memory.proofs.clear.Tie as tie
 
 abbrev Inv-loop : tie.InvT-loop
-Inv-loop work₀ n end i₀ work i = (i ≤ end) × (end ≡ 4 * n) × (length work ≡ length work₀) × (work ≡ replicate i 0 ++ drop i work₀)
+Inv-loop work₀ n v₀ work v = (v ≤ n) × Cleared n v work₀ work
 
 abbrev μ-loop : tie.MeasureT-loop
-μ-loop work₀ n end i₀ work i = end - i
-
-mul-end : tie.Need-mul-end Inv-loop μ-loop
-mul-end c = omega arith
+μ-loop work₀ n v₀ work v = n - v
 
 loop-holds : tie.Need-loop-holds Inv-loop μ-loop
 loop-holds c = search needs
@@ -26,24 +21,56 @@ mul-work c = search needs
 slice-write-work : tie.Need-slice-write-work Inv-loop μ-loop
 slice-write-work c = search needs
 
-add-i : tie.Need-add-i Inv-loop μ-loop
-add-i c = search needs
+add-work : tie.Need-add-work Inv-loop μ-loop
+add-work c = search needs
+
+mul-work-2 : tie.Need-mul-work-2 Inv-loop μ-loop
+mul-work-2 c = search needs
+
+slice-write-work-2 : tie.Need-slice-write-work-2 Inv-loop μ-loop
+slice-write-work-2 c = simp length-set (omega (arith, c .before .loop .inv .1 .size))
+
+add-work-2 : tie.Need-add-work-2 Inv-loop μ-loop
+add-work-2 c = search needs
+
+add-work-3 : tie.Need-add-work-3 Inv-loop μ-loop
+add-work-3 c = search needs
+
+mul-work-3 : tie.Need-mul-work-3 Inv-loop μ-loop
+mul-work-3 c = search needs
+
+slice-write-work-3 : tie.Need-slice-write-work-3 Inv-loop μ-loop
+slice-write-work-3 c = simp length-set (omega (arith, c .before .loop .inv .1 .size))
+
+add-work-4 : tie.Need-add-work-4 Inv-loop μ-loop
+add-work-4 c = search needs
+
+add-work-5 : tie.Need-add-work-5 Inv-loop μ-loop
+add-work-5 c = search needs
+
+add-work-6 : tie.Need-add-work-6 Inv-loop μ-loop
+add-work-6 c = search needs
+
+mul-work-4 : tie.Need-mul-work-4 Inv-loop μ-loop
+mul-work-4 c = search needs
+
+slice-write-work-4 : tie.Need-slice-write-work-4 Inv-loop μ-loop
+slice-write-work-4 c = simp length-set (omega (arith, c .before .loop .inv .1 .size))
+
+add-v : tie.Need-add-v Inv-loop μ-loop
+add-v c = search needs
 
 loop-less : tie.Need-loop-less Inv-loop μ-loop
 loop-less c = search needs
 
 loop-again : tie.Need-loop-again Inv-loop μ-loop
-loop-again c =
-    let i = c .before .loop .inv in
-    (omega arith, i .1, simp length-set (i .2), ap (λ l. set l (c .before .loop .i) 0) (i .3) ∙ fill-more (c .before .loop .i) 0 _ (omega arith))
+loop-again c = (omega arith, cleared-more (c .before .loop .inv .1) (c .before .before .pre) (c .loop-test .taken))
 
 same-length : tie.Need-same-length Inv-loop μ-loop
-same-length c = c .before .loop .inv .2
+same-length c = search needs
 
 returns : tie.Need-returns Inv-loop μ-loop
-returns c =
-    let e : c .before .loop .i ≡ 4 * c .before .before .args .n = omega arith in
-    rw length-replicate (rw e at (c .before .loop .inv .3))
+returns c = cleared-all (c .before .loop .inv .1) (c .before .before .pre) (omega arith)
 
 pub clear-spec : {M : Type 1} → statement M
 clear-spec =
@@ -51,11 +78,22 @@ clear-spec =
     (tie.spec
     Inv-loop
     μ-loop
-    mul-end
     loop-holds
     mul-work
     slice-write-work
-    add-i
+    add-work
+    mul-work-2
+    slice-write-work-2
+    add-work-2
+    add-work-3
+    mul-work-3
+    slice-write-work-3
+    add-work-4
+    add-work-5
+    add-work-6
+    mul-work-4
+    slice-write-work-4
+    add-v
     loop-less
     loop-again
     same-length

@@ -42,7 +42,7 @@ add-result : tie.Need-add-result
 add-result c = omega (arith, small c)
 
 returns : tie.Need-returns
-returns c = search needs
+returns c = (search needs, omega (arith, small c))
 
 pub key-spec : {M : Type 1} → statement M
 key-spec =

@@ -1,222 +1,63 @@
--- The loop's invariant: as many steps of the taking rule have been made as nodes are counted.
-use borrow.Author.Needs.{needs}
-use mathlib.Core.Path.{_≡_, refl, sym, _∙_}
-use Prim.Native.Nat.{_-_, _<_}
-use native.Mathlib.Numerals.{add-one}
-use native.Mathlib.Omega.{arith}
-use lib.ListN.{length}
-use denote.Ref.{now}
-use Rattle.meaning.specs.Region.{tables}
-use Rattle.search.proofs.Checked.{query-low, query-below, few, ground, arcs}
-use Rattle.search.proofs.Runs.{Going, bounds, begun, as-lent, all-steps, aiming, renewed, picked-node, picked-none, first-of, advanced, stops-filled, stops-done, stops-closed}
+use mathlib.Core.Path.{refl, sym}
+use Rattle.search.proofs.Checked.{few-sites, tailed, bare}
 use Rattle.search.proofs.run.Statement.{statement}
 use Rattle.search.proofs.run.Tie as tie
 
-abbrev Inv-loop : tie.InvT-loop
-Inv-loop tails heads weights xs ys sites n m s query k work₀ listed₀ lengths₀ grouped count₀ taken₀ work listed lengths count taken =
-    Going (tables tails heads weights xs ys sites n m s) query k work₀ listed₀ lengths₀ work listed lengths count taken
+slice-aggregate-link : tie.Need-slice-aggregate-link
+slice-aggregate-link c = refl
 
-abbrev μ-loop : tie.MeasureT-loop
-μ-loop tails heads weights xs ys sites n m s query k work₀ listed₀ lengths₀ grouped count₀ taken₀ work listed lengths count taken = n - taken
+slice-aggregate-link-2 : tie.Need-slice-aggregate-link-2
+slice-aggregate-link-2 c = refl
 
--- from the loop back to what `start` gave, and to the entry
-abbrev opening : tie.At-loop Inv-loop μ-loop → tie.After-start Inv-loop μ-loop
-opening turn = turn .before .before .before .before
+link-requires : tie.Need-link-requires
+link-requires c κs = tailed (c .before .before .before .before .before .before .before .before .before .pre .0)
 
-abbrev entry : tie.At-loop Inv-loop μ-loop → tie.Start Inv-loop μ-loop
-entry turn = opening turn .before .before .before .before .before .before .before .before .before
+slice-aggregate-steps : tie.Need-slice-aggregate-steps
+slice-aggregate-steps c = sym (c .before .before .before .link .kept .1 .1 .1 .0)
 
-sub-start : tie.Need-sub-start Inv-loop μ-loop
-sub-start c = query-low (c .before .before .before .before .before .before .before .pre .0)
+slice-aggregate-steps-2 : tie.Need-slice-aggregate-steps-2
+slice-aggregate-steps-2 c = sym (c .before .before .before .before .link .kept .1 .1 .1 .1 .0)
 
-start-requires : tie.Need-start-requires Inv-loop μ-loop
-start-requires c κs =
-    let p = c .before .before .before .before .before .before .before .before .pre in
-    ((p .1 .0, (few (p .0), query-below (p .0))), ground (p .0))
+slice-aggregate-steps-3 : tie.Need-slice-aggregate-steps-3
+slice-aggregate-steps-3 c = refl
 
-grouped-requires : tie.Need-grouped-requires Inv-loop μ-loop
-grouped-requires c κs = arcs (c .before .before .before .before .before .before .before .before .before .before .before .pre .0) .tail-room
+slice-aggregate-steps-4 : tie.Need-slice-aggregate-steps-4
+slice-aggregate-steps-4 c = refl
 
-loop-holds : tie.Need-loop-holds Inv-loop μ-loop
-loop-holds c = record { most = omega arith; ran = begun (c .before .before .before .start .ensures .1); tree = c .before .before .before .start .ensures .0; work-kept = refl; listed-kept = refl; lengths-kept = refl }
+slice-aggregate-steps-5 : tie.Need-slice-aggregate-steps-5
+slice-aggregate-steps-5 c = refl
 
-choose-requires : tie.Need-choose-requires Inv-loop μ-loop
-choose-requires c κs =
-    let turn = c .before .before .before .before in
-    let s = entry turn in
-    let inv = turn .loop .inv in
-    ((omega arith, few (s .pre .0)), (ground (s .pre .0), (inv .tree, aiming (s .pre .0) (inv .ran) (c .before .if2 .left))))
+steps-requires : tie.Need-steps-requires
+steps-requires c κs =
+    let p = c .before .before .before .before .before .before .before .before .before .before .before .before .before .before .before .before .before .before .before .before .pre in
+    (p .0, (p .1, (c .before .before .before .before .before .before .before .before .before .before .link .ensures, ((few-sites (p .0), few-sites (p .0)), bare (p .0)))))
 
-enum-known-u : tie.Need-enum-known-u Inv-loop μ-loop
-enum-known-u c = search needs
+same-length : tie.Need-same-length
+same-length c = c .before .before .before .before .before .before .before .before .before .steps .kept .1 .1 .1 .1 .1 .1 .1 .1 .1 .1 .1 .1 .1 .1 .1 .1 .0
 
-enum-told : tie.Need-enum-told Inv-loop μ-loop
-enum-told c = search needs
+same-length-2 : tie.Need-same-length-2
+same-length-2 c = c .before .before .before .before .before .before .before .before .before .steps .kept .1 .1 .1 .1 .1 .1 .1 .1 .1 .1 .1 .1 .1 .1 .1 .1 .1 .0
 
-take-requires : tie.Need-take-requires Inv-loop μ-loop
-take-requires c κs =
-    let picked = c .before .before in
-    let looked = picked .before .before .before .before in
-    let turn = looked .before .before .before .before .before in
-    let s = entry turn in
-    let inv = turn .loop .inv in
-    let left = looked .before .before .if2 .left in
-    let ran = renewed (s .pre .0) (inv .ran) left (looked .choose .ensures .1 .0) in
-    let f = first-of (s .pre .0) (inv .ran) (picked-node (s .pre .0) (inv .ran) left (looked .choose .ensures .1 .1) (picked .u .given .1)) in
-    ((ran .live .holds .room, f .below), (ground (s .pre .0), (arcs (s .pre .0), ((λ e. sym (turn .before .grouped .ensures) ∙ e), (bounds (s .pre .0) ran, looked .choose .ensures .0)))))
+same-length-3 : tie.Need-same-length-3
+same-length-3 c = c .before .before .before .before .before .before .before .before .before .steps .kept .1 .1 .1 .1 .1 .1 .1 .1 .1 .1 .1 .1 .1 .1 .1 .1 .1 .1 .0
 
-list-requires : tie.Need-list-requires Inv-loop μ-loop
-list-requires c κs =
-    let took = c .before .before .before .before .before in
-    let picked = took .before .before .before in
-    let looked = picked .before .before .before .before in
-    let tested = looked .before .before .before in
-    let turn = tested .before .before in
-    let s = entry turn in
-    let inv = turn .loop .inv in
-    let f = first-of (s .pre .0) (inv .ran) (picked-node (s .pre .0) (inv .ran) (looked .before .before .if2 .left) (looked .choose .ensures .1 .1) (picked .u .given .1)) in
-    let kept = took .take .kept .1 .1 .1 .1 .1 .1 .1 .1 .1 .1 .1 .0 in
-    let same = looked .choose .kept .1 .1 .1 .1 .1 .1 .0 in
-    let room = inv .ran .live .holds .room in
-    let under : turn .loop .count < s .args .k = tested .if1 .left in
-    ((omega arith, (f .below, few (s .pre .0))), (omega (arith, s .pre, inv), omega (arith, s .pre, inv)))
-
-add-taken : tie.Need-add-taken Inv-loop μ-loop
-add-taken c =
-    let test = c .before .before .before .before .before .before .before .before .before .before .before .before .before .before .before .before .before .before .before .before .before in
-    omega (arith, few (entry (test .before) .pre .0), test .loop-test .taken)
-
-loop-less : tie.Need-loop-less Inv-loop μ-loop
-loop-less c = omega arith
-
-loop-again : tie.Need-loop-again Inv-loop μ-loop
-loop-again c =
-    let listing = c .before .before .before .before in
-    let took = listing .before .before .before .before .before .before in
-    let picked = took .before .before .before in
-    let looked = picked .before .before .before .before in
-    let tested = looked .before .before .before in
-    let turn = tested .before .before in
-    let s = entry turn in
-    let inv = turn .loop .inv in
-    let left = looked .before .before .if2 .left in
-    let under : turn .loop .count < s .args .k = tested .if1 .left in
-    let listed : turn .loop .count < length (now (s .args .listed)) = omega (arith, s .pre) in
-    let lengths : turn .loop .count < length (now (s .args .lengths)) = omega (arith, s .pre) in
-    let step =
-    advanced (s .pre .0) (renewed (s .pre .0) (inv .ran) left (looked .choose .ensures .1 .0)) under left listed lengths
-    (picked-node (s .pre .0) (inv .ran) left (looked .choose .ensures .1 .1) (picked .u .given .1)) (took .take .ensures .0) (took .take .ensures .1 .1) (listing .list .ensures) in
-    record {
-      most = omega (arith, tested .before .loop-test .taken);
-      ran = rw add-one step;
-      tree = took .take .ensures .1 .0;
-      work-kept = took .take .kept .1 .1 .1 .1 .1 .1 .1 .1 .1 .1 .1 .0 ∙ looked .choose .kept .1 .1 .1 .1 .1 .1 .0 ∙ inv .work-kept;
-      listed-kept = listing .list .kept .1 .1 .1 .1 .0 ∙ inv .listed-kept;
-      lengths-kept = listing .list .kept .1 .1 .1 .1 .1 .0 ∙ inv .lengths-kept;
-    }
-
-same-length : tie.Need-same-length Inv-loop μ-loop
-same-length c = c .before .loop .inv .work-kept ∙ opening (c .before) .start .kept .1 .1 .1 .1 .1 .1 .0
-
-same-length-2 : tie.Need-same-length-2 Inv-loop μ-loop
-same-length-2 c = c .before .loop .inv .listed-kept
-
-same-length-3 : tie.Need-same-length-3 Inv-loop μ-loop
-same-length-3 c = c .before .loop .inv .lengths-kept
-
-returns : tie.Need-returns Inv-loop μ-loop
-returns c =
-    let turn = c .before in
-    let s = entry turn in
-    let inv = turn .loop .inv in
-    let e : turn .loop .taken ≡ s .args .n = omega arith in
-    as-lent (opening turn .start .ensures .1 .holds .past) (all-steps e (inv .ran))
-
-same-length-4 : tie.Need-same-length-4 Inv-loop μ-loop
-same-length-4 c = c .before .before .loop .inv .work-kept ∙ opening (c .before .before) .start .kept .1 .1 .1 .1 .1 .1 .0
-
-same-length-5 : tie.Need-same-length-5 Inv-loop μ-loop
-same-length-5 c = c .before .before .loop .inv .listed-kept
-
-same-length-6 : tie.Need-same-length-6 Inv-loop μ-loop
-same-length-6 c = c .before .before .loop .inv .lengths-kept
-
-returns-2 : tie.Need-returns-2 Inv-loop μ-loop
-returns-2 c =
-    let turn = c .before .before in
-    let s = entry turn in
-    let inv = turn .loop .inv in
-    as-lent (opening turn .start .ensures .1 .holds .past) (stops-filled (s .pre .0) (inv .ran) (c .if1 .taken) (s .args .n) (inv .most))
-
-same-length-7 : tie.Need-same-length-7 Inv-loop μ-loop
-same-length-7 c = c .before .before .before .loop .inv .work-kept ∙ opening (c .before .before .before) .start .kept .1 .1 .1 .1 .1 .1 .0
-
-same-length-8 : tie.Need-same-length-8 Inv-loop μ-loop
-same-length-8 c = c .before .before .before .loop .inv .listed-kept
-
-same-length-9 : tie.Need-same-length-9 Inv-loop μ-loop
-same-length-9 c = c .before .before .before .loop .inv .lengths-kept
-
-returns-3 : tie.Need-returns-3 Inv-loop μ-loop
-returns-3 c =
-    let turn = c .before .before .before in
-    let s = entry turn in
-    let inv = turn .loop .inv in
-    as-lent (opening turn .start .ensures .1 .holds .past) (stops-done (s .pre .0) (inv .ran) (c .if2 .taken) (s .args .n) (inv .most))
-
-same-length-10 : tie.Need-same-length-10 Inv-loop μ-loop
-same-length-10 c =
-    let turn = c .before .before .before .before .before .before .before .before .before in
-    c .before .before .before .before .choose .kept .1 .1 .1 .1 .1 .1 .0 ∙ turn .loop .inv .work-kept ∙ opening turn .start .kept .1 .1 .1 .1 .1 .1 .0
-
-same-length-11 : tie.Need-same-length-11 Inv-loop μ-loop
-same-length-11 c = c .before .before .before .before .before .before .before .before .before .loop .inv .listed-kept
-
-same-length-12 : tie.Need-same-length-12 Inv-loop μ-loop
-same-length-12 c = c .before .before .before .before .before .before .before .before .before .loop .inv .lengths-kept
-
-returns-4 : tie.Need-returns-4 Inv-loop μ-loop
-returns-4 c =
-    let looked = c .before .before .before .before in
-    let turn = looked .before .before .before .before .before in
-    let s = entry turn in
-    let inv = turn .loop .inv in
-    let left = looked .before .before .if2 .left in
-    as-lent (opening turn .start .ensures .1 .holds .past)
-    (stops-closed (s .pre .0) (renewed (s .pre .0) (inv .ran) left (looked .choose .ensures .1 .0))
-    (picked-none (s .pre .0) (inv .ran) left (looked .choose .ensures .1 .1) (c .enum-told .given .1)) (s .args .n) (inv .most))
+returns : tie.Need-returns
+returns c = c .before .before .before .before .before .before .before .before .before .steps .ensures
 
 pub run-spec : {M : Type 1} → statement M
 run-spec =
     tie.close
     (tie.spec
-    Inv-loop
-    μ-loop
-    sub-start
-    start-requires
-    grouped-requires
-    loop-holds
-    choose-requires
-    enum-known-u
-    enum-told
-    take-requires
-    list-requires
-    add-taken
-    loop-less
-    loop-again
+    slice-aggregate-link
+    slice-aggregate-link-2
+    link-requires
+    slice-aggregate-steps
+    slice-aggregate-steps-2
+    slice-aggregate-steps-3
+    slice-aggregate-steps-4
+    slice-aggregate-steps-5
+    steps-requires
     same-length
     same-length-2
     same-length-3
-    returns
-    same-length-4
-    same-length-5
-    same-length-6
-    returns-2
-    same-length-7
-    same-length-8
-    same-length-9
-    returns-3
-    same-length-10
-    same-length-11
-    same-length-12
-    returns-4)
+    returns)

@@ -1,6 +1,8 @@
 use borrow.Author.Needs.{needs}
 use native.Mathlib.Omega.{arith}
+use Rattle.straight.specs.Points.{entry}
 use Rattle.straight.proofs.Gaps.{sum-is}
+use Rattle.straight.proofs.Laws.{small-back}
 use Rattle.straight.proofs.squares.Statement.{statement}
 use Rattle.straight.proofs.squares.Tie as tie
 
@@ -17,7 +19,12 @@ shared-slice-copy-out-apart-2 : tie.Need-shared-slice-copy-out-apart-2
 shared-slice-copy-out-apart-2 c = search needs
 
 apart-requires : tie.Need-apart-requires
-apart-requires c κs = search needs
+apart-requires c κs =
+    let start = c .before .before in
+    let a = start .args in (
+      small-back (entry (a .xs .now) (a .a)) (record { sfits = c .before .apart-arg .given }) (omega (arith, start .pre .0 .x-near)),
+      small-back (entry (a .xs .now) (a .b)) (record { sfits = c .apart-arg2 .given }) (omega (arith, start .pre .1 .x-near)),
+    )
 
 mul-apart-3 : tie.Need-mul-apart-3
 mul-apart-3 c = search needs
@@ -32,7 +39,12 @@ shared-slice-copy-out-apart-4 : tie.Need-shared-slice-copy-out-apart-4
 shared-slice-copy-out-apart-4 c = search needs
 
 apart-requires-2 : tie.Need-apart-requires-2
-apart-requires-2 c κs = search needs
+apart-requires-2 c κs =
+    let start = c .before .before .before .before .before in
+    let a = start .args in (
+      small-back (entry (a .ys .now) (a .a)) (record { sfits = c .before .apart-arg3 .given }) (omega (arith, start .pre .0 .y-near)),
+      small-back (entry (a .ys .now) (a .b)) (record { sfits = c .apart-arg4 .given }) (omega (arith, start .pre .1 .y-near)),
+    )
 
 add-result : tie.Need-add-result
 add-result c =

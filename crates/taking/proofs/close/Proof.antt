@@ -1,8 +1,6 @@
 use borrow.Author.Needs.{needs}
-use mathlib.Core.Path.{_∙_}
-use native.Mathlib.Omega.{arith}
 use lib.ListN.{length-set}
-use Rattle.taking.proofs.Closing.{rival-tree, rival-apart, closed}
+use Rattle.taking.proofs.Closing.{rival-tree, rival-apart, closed, shut}
 use Rattle.taking.proofs.close.Statement.{statement}
 use Rattle.taking.proofs.close.Tie as tie
 
@@ -20,17 +18,21 @@ slice-write-work c = search needs
 
 replay-requires : tie.Need-replay-requires
 replay-requires c κs =
-    let start = c .before .before .before .before in
-    ((simp length-set (start .pre .0 .0), (start .pre .0 .1 .1, omega (arith, start .pre .0))), rival-tree (start .args .n) (start .args .u) 0 (start .args .work .now) (start .pre .0 .1 .1) (start .pre .1))
+    let start = c .before .before .before .before .before .before in
+    ((simp length-set (start .pre .0 .0), (start .pre .0 .1 .1 .0, start .pre .0 .1 .0)), rival-tree (start .args .n) (start .args .u) 0 (start .args .work .now) (start .pre .0 .1 .1 .0) (start .pre .1))
 
 same-length : tie.Need-same-length
-same-length c = c .before .before .replay .kept .0 ∙ simp length-set
+same-length c = search needs
+
+same-length-2 : tie.Need-same-length-2
+same-length-2 c = search needs
 
 returns : tie.Need-returns
 returns c =
-    let start = c .before .before .before .before .before .before .before in
-    let replay = c .before .before .replay in
-    (c .before .before .before .before .is-rival-site .ensures, (replay .ensures .0, (rival-apart (start .args .n) (start .args .u) 0 (start .args .work .now) (start .pre .0 .1 .1) _ (replay .ensures .1), closed (start .args .n) (start .args .u) (start .args .work .now) _ (start .pre .0 .1 .1) (replay .ensures .1))))
+    let start = c .before .before .before .before .before .before .before .before .before in
+    let site = c .before .before .before .before .before .is-rival-site .ensures in
+    let l = start .pre .0 .1 .1 .0 in
+    (site .0, (site .1, (c .before .before .replay .ensures, (rival-apart (start .args .n) (start .args .u) 0 (start .args .work .now) l, (shut (start .args .n) (start .args .u) (start .args .work .now) l (start .pre .0 .0) (start .pre .0 .1 .1 .1), closed (start .args .n) (start .args .u) (start .args .work .now) l)))))
 
 pub close-spec : {M : Type 1} → statement M
-close-spec = tie.close (tie.spec is-rival-site-requires add-work mul-work slice-write-work replay-requires same-length returns)
+close-spec = tie.close (tie.spec is-rival-site-requires add-work mul-work slice-write-work replay-requires same-length same-length-2 returns)

@@ -1,8 +1,8 @@
 use borrow.Author.Needs.{needs}
 use mathlib.Core.Bool.{true≢false, false≢true}
-use mathlib.Core.Path.{refl, sym, _∙_}
-use native.Mathlib.Omega.{arith}
-use lib.ListN.{length-set}
+use mathlib.Core.Path.{refl, sym, ap, _∙_}
+use Prim.Native.Nat.{_+_}
+use lib.ListN.{set, length-set}
 use Rattle.taking.proofs.Closing.{rival-tree}
 use Rattle.taking.proofs.fresh.Statement.{statement}
 use Rattle.taking.proofs.fresh.Tie as tie
@@ -24,8 +24,8 @@ same-length c = search needs
 
 returns : tie.Need-returns
 returns c =
-    let start = c .before .before .before .before .before .before in
-    (start .pre .1 .1, record { kept = λ e. (refl, c .if1 .taken ∙ c .before .before .aim .ensures); new = λ e. absurd (true≢false e) })
+    let start = c .before .before .before .before .before .before .before in
+    (start .pre .1 .1 .1, record { kept = λ e. (refl, c .if1 .taken ∙ c .before .before .aim .ensures); new = λ e. absurd (true≢false e) })
 
 add-work : tie.Need-add-work
 add-work c = search needs
@@ -38,17 +38,20 @@ slice-write-work c = search needs
 
 replay-requires : tie.Need-replay-requires
 replay-requires c κs =
-    let start = c .before .before .before .before .before .before .before in
-    ((simp length-set (start .pre .0 .0), (start .pre .0 .1 .1 .0, omega (arith, start .pre .0))), rival-tree (start .args .n) (start .args .v) (c .before .before .before .aim .result) (start .args .work .now) (start .pre .0 .1 .1 .0) (start .pre .1 .1))
+    let start = c .before .before .before .before .before .before .before .before .before in
+    ((simp length-set (start .pre .0 .0), (start .pre .0 .1 .1 .0, start .pre .0 .1 .0)), rival-tree (start .args .n) (start .args .v) (c .before .before .before .before .aim .result) (start .args .work .now) (start .pre .0 .1 .1 .0) (start .pre .1 .1 .1))
 
 same-length-2 : tie.Need-same-length-2
-same-length-2 c = c .before .before .replay .kept .0 ∙ simp length-set
+same-length-2 c = simp length-set
+
+same-length-3 : tie.Need-same-length-3
+same-length-3 c = search needs
 
 returns-2 : tie.Need-returns-2
 returns-2 c =
-    let replay = c .before .before .replay in
-    let aim = c .before .before .before .before .before .before .aim in
-    (replay .ensures .0, record { kept = λ e. absurd (false≢true e); new = λ e. (rw (aim .ensures) at (replay .ensures .1), λ z. c .before .before .before .before .if1 .left (z ∙ sym (aim .ensures))) })
+    let start = c .before .before .before .before .before .before .before .before .before .before .before .before in
+    let aim = c .before .before .before .before .before .before .before .aim in
+    (c .before .before .replay .ensures, record { kept = λ e. absurd (false≢true e); new = λ e. (ap (set (start .args .work .now) (start .args .n + start .args .v)) (aim .ensures), λ z. c .before .before .before .before .before .if1 .left (z ∙ sym (aim .ensures))) })
 
 pub fresh-spec : {M : Type 1} → statement M
 fresh-spec =
@@ -65,4 +68,5 @@ fresh-spec =
     slice-write-work
     replay-requires
     same-length-2
+    same-length-3
     returns-2)

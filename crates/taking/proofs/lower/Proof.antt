@@ -1,6 +1,6 @@
 use borrow.Author.Needs.{needs}
-use Rattle.memory.proofs.TreeChanges.{tree-lead}
-use Rattle.taking.proofs.Reaching.{lower-here, lower-not}
+use mathlib.Core.Path.{refl}
+use Rattle.taking.proofs.Reaching.{lead-keys, lower-here, lower-not}
 use Rattle.taking.proofs.lower.Statement.{statement}
 use Rattle.taking.proofs.lower.Tie as tie
 
@@ -40,10 +40,12 @@ same-length c = search needs
 returns : tie.Need-returns
 returns c =
     let start = c .before .before in
-    (tree-lead (start .args .h) _ (start .pre .0 .1 .1 .1) (start .pre .1), lower-here (start .args .n) (start .args .u) (start .args .h) (start .args .work .now) (start .pre .0 .1 .1 .1) (c .if1 .taken))
+    (lead-keys (start .args .n) (start .args .h) _ (start .args .work .now) (start .pre .1 .1 .1), lower-here (start .args .n) (start .args .u) (start .args .h) (start .args .work .now) (start .pre .1 .1 .1) (c .if1 .taken))
 
 returns-2 : tie.Need-returns-2
-returns-2 c = let start = c .before .before in (start .pre .1, lower-not (start .args .n) (start .args .u) (start .args .h) (start .args .work .now) (start .pre .0 .1 .1 .1) (c .if1 .left))
+returns-2 c =
+    let start = c .before .before in
+    (record { lens = λ x k. refl; rivals = λ x k. refl }, lower-not (start .args .n) (start .args .u) (start .args .h) (start .args .work .now) (start .pre .1 .1 .1) (c .if1 .left))
 
 pub lower-spec : {M : Type 1} → statement M
 lower-spec =

@@ -1,34 +1,29 @@
--- The loop's invariant: the arcs up to i have been followed, or are other nodes'.
+-- The loop's invariant: the arcs before some arc have been followed, or are other nodes', and `next` is found from there on.
 use borrow.Author.Needs.{needs}
 use native.Mathlib.Omega.{arith}
-use Prim.Native.Nat.{_-_, _<_}
+use Prim.Native.Nat.{_-_}
 use Rattle.meaning.specs.Region.{Tables, tables}
-use Rattle.taking.proofs.Following.{Following, follow-first, follow-other, follow-own, follow-all, reached-any}
+use Rattle.memory.proofs.Aims.{aims-same}
+use Rattle.taking.proofs.Following.{Following, Ahead, ahead, left, follow-none, follow-one, follow-less, follow-all}
 use Rattle.taking.proofs.relax.Statement.{statement}
 use Rattle.taking.proofs.relax.Tie as tie
 
 abbrev Inv-loop : tie.InvT-loop
-Inv-loop tails heads weights xs ys sites n m s grouped u work₀ number from end i₀ work i = Following (tables tails heads weights xs ys sites n m s) u i work₀ work
+Inv-loop tails heads weights xs ys sites n m s starts nexts u ax ay work₀ tree₀ from next₀ work tree next = Following (tables tails heads weights xs ys sites n m s) u work₀ tree₀ work tree next
 
 abbrev μ-loop : tie.MeasureT-loop
-μ-loop tails heads weights xs ys sites n m s grouped u work₀ number from end i₀ work i = end - i
+μ-loop tails heads weights xs ys sites n m s starts nexts u ax ay work₀ tree₀ from next₀ work tree next = left m next
 
 -- what is lent
 abbrev lent : tie.Start Inv-loop μ-loop → Tables
 lent s = tables (s .args .tails .now) (s .args .heads .now) (s .args .weights .now) (s .args .xs .now) (s .args .ys .now) (s .args .sites .now) (s .args .n) (s .args .m) (s .args .s)
 
 abbrev start : tie.At-loop Inv-loop μ-loop → tie.Start Inv-loop μ-loop
-start loop = loop .before .before .before .before .before .before .before .before
+start loop = loop .before .before .before .before .before .before .before .before .before .before .before
 
--- an arc that is looked at is one of the m
-below : (test : tie.In-loop Inv-loop μ-loop) → test .before .loop .i < start (test .before) .args .m
-below test = omega (arith, test .before .before .arcs-of .ensures)
-
-add-number : tie.Need-add-number Inv-loop μ-loop
-add-number c = omega arith
-
-cast-number : tie.Need-cast-number Inv-loop μ-loop
-cast-number c = omega arith
+-- the arc that is followed
+arc : (c : tie.In-loop Inv-loop μ-loop) → (let s = start (c .before) in Ahead (lent s) (s .args .nexts .now) (c .before .loop .next - 1))
+arc c = let s = start (c .before) in ahead (c .before .loop .inv) (s .pre .1 .1 .0) (s .pre .1 .1 .1 .0) (c .loop-test .taken)
 
 mul-from : tie.Need-mul-from Inv-loop μ-loop
 mul-from c = search needs
@@ -36,94 +31,89 @@ mul-from c = search needs
 slice-read-from : tie.Need-slice-read-from Inv-loop μ-loop
 slice-read-from c = omega arith
 
-arcs-of-requires : tie.Need-arcs-of-requires Inv-loop μ-loop
-arcs-of-requires c κs = search needs
+mul-next : tie.Need-mul-next Inv-loop μ-loop
+mul-next c = search needs
+
+shared-slice-read-next : tie.Need-shared-slice-read-next Inv-loop μ-loop
+shared-slice-read-next c = omega (arith, c .before .before .before .before .before .before .before .before .before .before .pre .1 .1 .1 .0 .start-room)
+
+cast-next : tie.Need-cast-next Inv-loop μ-loop
+cast-next c = omega (arith, c .shared-slice-known7 .given (c .before .before .before .before .before .before .before .before .before .before .args .u))
 
 loop-holds : tie.Need-loop-holds Inv-loop μ-loop
 loop-holds c =
-    let s = c .before .before .before .before .before .before .before in
-    follow-first (lent s) (s .args .u) (s .args .work .now) (s .pre .1 .1 .0 .tail-low) _ _ (c .arcs-of .ensures) (s .pre .1 .1 .1 .1 .1)
+    let s = c .before .before .before .before .before .before .before .before .before .before in
+    follow-none (s .pre .1 .1 .1 .1 .1 .0) (s .pre .1 .1 .1 .0 .first (s .args .u) (s .pre .0 .1))
 
-mul-if1 : tie.Need-mul-if1 Inv-loop μ-loop
-mul-if1 c = search needs
-
-shared-slice-read-if1 : tie.Need-shared-slice-read-if1 Inv-loop μ-loop
-shared-slice-read-if1 c = omega (arith, below (c .before))
-
-add-i : tie.Need-add-i Inv-loop μ-loop
-add-i c = omega (arith, below (c .before .before))
-
-loop-less : tie.Need-loop-less Inv-loop μ-loop
-loop-less c = omega arith
-
-loop-again : tie.Need-loop-again Inv-loop μ-loop
-loop-again c =
-    let test = c .before .before in
-    let loop = test .before in
-    let s = start loop in
-    follow-other (lent s) (s .args .u) (loop .loop .i) (s .args .work .now) (loop .loop .work) (below test) (loop .loop .inv) (s .pre .1 .1 .0 .tail-low (loop .loop .i) (below test)) (c .if1 .taken)
+sub-i : tie.Need-sub-i Inv-loop μ-loop
+sub-i c = search needs
 
 mul-head : tie.Need-mul-head Inv-loop μ-loop
-mul-head c = search needs
+mul-head c = omega (arith, arc c)
 
 shared-slice-read-head : tie.Need-shared-slice-read-head Inv-loop μ-loop
-shared-slice-read-head c = omega (arith, below (c .before .before .before))
+shared-slice-read-head c = omega (arith, arc (c .before))
 
 cast-head : tie.Need-cast-head Inv-loop μ-loop
-cast-head c = omega (arith, c .shared-slice-known6 .given (c .before .before .before .before .loop .i))
+cast-head c = omega (arith, c .shared-slice-known8 .given (c .before .before .loop .next - 1))
 
 sub-reach : tie.Need-sub-reach Inv-loop μ-loop
-sub-reach c =
-    let test = c .before .before .before in
-    start (test .before) .pre .1 .1 .0 .head-low (test .before .loop .i) (below test)
+sub-reach c = arc (c .before) .low
 
 mul-reach : tie.Need-mul-reach Inv-loop μ-loop
-mul-reach c = search needs
+mul-reach c = omega (arith, arc (c .before))
 
 shared-slice-read-reach : tie.Need-shared-slice-read-reach Inv-loop μ-loop
-shared-slice-read-reach c = omega (arith, below (c .before .before .before .before))
+shared-slice-read-reach c = omega (arith, arc (c .before .before))
 
 add-reach : tie.Need-add-reach Inv-loop μ-loop
 add-reach c =
-    let test = c .before .before .before .before in
-    let s = start (test .before) in
-    omega (arith, s .pre .1 .1 .1 .1 .0 (s .args .u) (s .pre .0 .1), s .pre .1 .1 .0 .light (test .before .loop .i) (below test))
+    let s = start (c .before .before .before) in
+    omega (arith, s .pre .1 .1 .1 .1 .0 (s .args .u) (s .pre .0 .1), arc (c .before .before))
 
 reach-requires : tie.Need-reach-requires Inv-loop μ-loop
 reach-requires c κs =
-    let test = c .before .before .before .before .before in
+    let test = c .before .before .before .before in
     let loop = test .before in
     let s = start loop in
-    let arcs = s .pre .1 .1 .0 in
-    let low = arcs .head-low (loop .loop .i) (below test) in
-    let high = arcs .head-high (loop .loop .i) (below test) in
-    ((rw (loop .loop .inv .size) (s .pre .0 .0), (arcs .nodes, (s .pre .0 .1, omega arith))), (s .pre .1 .0, loop .loop .inv .tree))
+    let a = arc test in
+    ((rw (loop .loop .inv .size) (s .pre .0 .0), (s .pre .1 .1 .0 .nodes, (s .pre .0 .1, omega arith))), (s .pre .1 .0, (aims-same (s .pre .1 .0) (s .pre .1 .1 .1 .1 .1 .1) (loop .loop .inv .same), loop .loop .inv .settled)))
 
-add-i-2 : tie.Need-add-i-2 Inv-loop μ-loop
-add-i-2 c = omega (arith, below (c .before .before .before .before .before .before .before .before))
+mul-next-2 : tie.Need-mul-next-2 Inv-loop μ-loop
+mul-next-2 c = omega (arith, arc (c .before .before .before .before .before .before .before .before .before))
 
-loop-less-2 : tie.Need-loop-less-2 Inv-loop μ-loop
-loop-less-2 c = omega arith
+shared-slice-read-next-2 : tie.Need-shared-slice-read-next-2 Inv-loop μ-loop
+shared-slice-read-next-2 c = omega (arith, arc (c .before .before .before .before .before .before .before .before .before .before))
 
-loop-again-2 : tie.Need-loop-again-2 Inv-loop μ-loop
-loop-again-2 c =
-    let reach = c .before .before .reach in
-    let if1 = c .before .before .before .before .before .before in
-    let test = if1 .before .before in
+cast-next-2 : tie.Need-cast-next-2 Inv-loop μ-loop
+cast-next-2 c = omega (arith, c .shared-slice-known10 .given (c .before .before .before .before .before .before .before .before .before .before .before .loop .next - 1))
+
+loop-less : tie.Need-loop-less Inv-loop μ-loop
+loop-less c =
+    let test = c .before .before .before .before .before .before .before .before .before .before in
+    let s = start (test .before) in
+    follow-less (test .before .loop .inv) (s .pre .1 .1 .0) (s .pre .1 .1 .1 .0) (test .loop-test .taken)
+
+loop-again : tie.Need-loop-again Inv-loop μ-loop
+loop-again c =
+    let test = c .before .before .before .before .before .before .before .before .before .before in
     let loop = test .before in
     let s = start loop in
-    let t = lent s in
-    let x = reached-any (t .tails) (t .heads) (t .weights) (t .xs) (t .ys) (t .sites) (t .n) (t .m) (t .s) (s .args .u) _ _ (loop .loop .work) _ (reach .ensures .1) in
-    follow-own t (s .args .u) (loop .loop .i) (s .args .work .now) (loop .loop .work) (below test) (loop .loop .inv) _ (s .pre .0 .1) (if1 .if1 .left) (reach .kept .1 .1 .1 .1 .1 .1 .1 .1 .0) (reach .ensures .0) x
+    let reach = c .before .before .before .before .before .reach in
+    follow-one (loop .loop .inv) (s .pre .1 .1 .0) (s .pre .1 .1 .1 .0) (test .loop-test .taken) (s .pre .0 .1) (reach .kept .1 .1 .1 .1 .1 .1 .1 .1 .1 .1 .0) (reach .kept .1 .1 .1 .1 .1 .1 .1 .1 .1 .1 .1 .0) (reach .ensures .0) (reach .ensures .1 .0) (reach .ensures .1 .1)
 
 same-length : tie.Need-same-length Inv-loop μ-loop
 same-length c = c .before .loop .inv .size
+
+same-length-2 : tie.Need-same-length-2 Inv-loop μ-loop
+same-length-2 c = c .before .loop .inv .tree-size
 
 returns : tie.Need-returns Inv-loop μ-loop
 returns c =
     let loop = c .before in
     let s = start loop in
-    (loop .loop .inv .tree, follow-all (lent s) (s .args .u) (s .args .work .now) (s .pre .1 .1 .0 .tail-low) _ _ (loop .before .arcs-of .ensures) (loop .loop .i) (loop .loop .work) (c .loop-test .left) (loop .loop .inv))
+    let inv = loop .loop .inv in
+    (inv .settled, (inv .same, follow-all inv (s .pre .1 .1 .0) (s .pre .1 .1 .1 .0) (c .loop-test .left)))
 
 pub relax-spec : {M : Type 1} → statement M
 relax-spec =
@@ -131,17 +121,13 @@ relax-spec =
     (tie.spec
     Inv-loop
     μ-loop
-    add-number
-    cast-number
     mul-from
     slice-read-from
-    arcs-of-requires
+    mul-next
+    shared-slice-read-next
+    cast-next
     loop-holds
-    mul-if1
-    shared-slice-read-if1
-    add-i
-    loop-less
-    loop-again
+    sub-i
     mul-head
     shared-slice-read-head
     cast-head
@@ -150,8 +136,11 @@ relax-spec =
     shared-slice-read-reach
     add-reach
     reach-requires
-    add-i-2
-    loop-less-2
-    loop-again-2
+    mul-next-2
+    shared-slice-read-next-2
+    cast-next-2
+    loop-less
+    loop-again
     same-length
+    same-length-2
     returns)

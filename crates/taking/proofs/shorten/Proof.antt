@@ -1,8 +1,8 @@
 use borrow.Author.Needs.{needs}
-use mathlib.Core.Path.{_∙_}
+use mathlib.Core.Path.{refl}
 use native.Mathlib.Omega.{arith}
 use lib.ListN.{length-set}
-use Rattle.taking.proofs.Reaching.{shorten-open, shorten-not, shorten-tree}
+use Rattle.taking.proofs.Reaching.{shorten-open, shorten-not, shorten-tree, shorten-taken}
 use Rattle.taking.proofs.shorten.Statement.{statement}
 use Rattle.taking.proofs.shorten.Tie as tie
 
@@ -41,22 +41,27 @@ slice-write-work-2 c = simp length-set (omega arith)
 
 replay-requires : tie.Need-replay-requires
 replay-requires c κs =
-    let start = c .before .before .before .before in
-    ((simp length-set (omega (arith, start .pre .0)), (start .pre .0 .1 .1 .1 .0, omega (arith, start .pre .0))), shorten-tree (start .args .n) (start .args .u) (start .args .h) (start .args .at) (start .args .work .now) (start .pre .0 .1 .1 .1 .0) (start .pre .1))
+    let start = c .before .before .before .before .before .before in
+    let l = start .pre .0 .1 .1 .1 .0 in
+    ((simp length-set (start .pre .0 .0), (l, start .pre .0 .1 .0)), shorten-tree (start .args .n) (start .args .u) (start .args .h) (start .args .at) (start .args .work .now) l (start .pre .1))
 
 same-length : tie.Need-same-length
-same-length c = c .before .before .replay .kept .0 ∙ simp length-set
+same-length c = simp length-set
+
+same-length-2 : tie.Need-same-length-2
+same-length-2 c = search needs
 
 returns : tie.Need-returns
 returns c =
-    let start = c .before .before .before .before .before .before .before in
-    let replay = c .before .before .replay in
-    (replay .ensures .0, shorten-open (start .args .n) (start .args .u) (start .args .h) (start .args .at) (start .args .work .now) (start .pre .0 .1 .1 .1 .0) (start .pre .0 .1 .1 .1 .1) (c .before .before .before .before .if1 .taken) _ (replay .ensures .1))
+    let start = c .before .before .before .before .before .before .before .before .before in
+    let opened = c .before .before .before .before .before .if1 .taken in
+    let l = start .pre .0 .1 .1 .1 .0 in
+    (c .before .before .replay .ensures, (shorten-taken (start .args .n) (start .args .u) (start .args .h) (start .args .at) (start .args .work .now) l opened, shorten-open (start .args .n) (start .args .u) (start .args .h) (start .args .at) (start .args .work .now) l (start .pre .0 .1 .1 .1 .1) opened))
 
 returns-2 : tie.Need-returns-2
 returns-2 c =
-    let start = c .before .before .before in
-    (start .pre .1, shorten-not (start .args .n) (start .args .u) (start .args .h) (start .args .at) (start .args .work .now) (start .pre .0 .1 .1 .1 .0) (start .pre .0 .1 .1 .1 .1) (c .if1 .left))
+    let start = c .before .before .before .before in
+    (start .pre .1, ((λ v l. refl), shorten-not (start .args .n) (start .args .u) (start .args .h) (start .args .at) (start .args .work .now) (start .pre .0 .1 .1 .1 .0) (start .pre .0 .1 .1 .1 .1) (c .if1 .left)))
 
 pub shorten-spec : {M : Type 1} → statement M
 shorten-spec =
@@ -75,5 +80,6 @@ shorten-spec =
     slice-write-work-2
     replay-requires
     same-length
+    same-length-2
     returns
     returns-2)

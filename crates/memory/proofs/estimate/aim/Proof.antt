@@ -20,7 +20,7 @@ returns c =
     c .rival .ensures ∙ ap (λ l. rivalOf l false) e ∙ ap (rivalOf _) (no-site (a .xs .now) (a .ys .now) (a .sites .now) (a .n) (a .work .now) (a .v) (c .before .before .before .before .before .pre .0 .1 .1) (a .s) (λ z. c .before .if1 .taken (e ∙ z)))
 
 is-site-requires : tie.Need-is-site-requires
-is-site-requires c κs = (c .before .before .before .before .pre .1 .room, c .before .before .before .before .pre .1 .low)
+is-site-requires c κs = (c .before .before .before .before .pre .1 .0 .room, c .before .before .before .before .pre .1 .0 .low)
 
 rival-requires-2 : tie.Need-rival-requires-2
 rival-requires-2 c κs = search needs

@@ -1,63 +1,69 @@
-use mathlib.Core.Path.{sym, _∙_}
 use native.Mathlib.Omega.{arith}
 use borrow.Author.Needs.{needs}
-use Rattle.memory.proofs.Closest.{least-taken, least-first, least-closer, least-kept}
+use lib.IntN.{pos}
+use lib.ListN.{getD}
+use Rattle.straight.proofs.Laws.{small-back}
+use Rattle.memory.proofs.Closest.{sum-fits, sum-nearer, sum-kept}
 use Rattle.memory.proofs.estimate.closer.Statement.{statement}
 use Rattle.memory.proofs.estimate.closer.Tie as tie
 
-mul-number : tie.Need-mul-number
-mul-number c = search needs
+mul-apart : tie.Need-mul-apart
+mul-apart c = search needs
 
-shared-slice-read-number : tie.Need-shared-slice-read-number
-shared-slice-read-number c = search needs
+shared-slice-copy-out-apart : tie.Need-shared-slice-copy-out-apart
+shared-slice-copy-out-apart c = search needs
 
-cast-number : tie.Need-cast-number
-cast-number c = omega (arith, c .shared-slice-known3 .given (c .before .before .before .args .j))
+apart-requires : tie.Need-apart-requires
+apart-requires c κs =
+    let a = c .before .args in
+    let S = c .before .pre .1 in
+    (small-back (a .x) (c .before .fits .x) (omega (arith, S .near-x)), small-back (getD (a .ax .now) (a .j) (pos 0)) (record { sfits = c .apart-arg .given }) (S .near-a))
 
-sub-node : tie.Need-sub-node
-sub-node c = c .before .before .before .pre .1 .0 .low (c .before .before .before .args .j) (c .before .before .before .pre .0 .1 .1 .0)
+mul-apart-2 : tie.Need-mul-apart-2
+mul-apart-2 c = search needs
 
-is-taken-requires : tie.Need-is-taken-requires
-is-taken-requires c κs =
-    let s = c .before .before .before in
-    let low = s .pre .1 .0 .low (s .args .j) (s .pre .0 .1 .1 .0) in
-    let high = s .pre .1 .0 .high (s .args .j) (s .pre .0 .1 .1 .0) in
-    (s .pre .0 .0, omega arith)
+shared-slice-copy-out-apart-2 : tie.Need-shared-slice-copy-out-apart-2
+shared-slice-copy-out-apart-2 c = search needs
 
-returns : tie.Need-returns
-returns c = (least-taken _ _ _ _ _ _ _ _ (c .before .before .before .before .before .pre .0 .1 .1 .1) (sym (c .before .is-taken .ensures) ∙ c .if1 .taken), c .before .before .before .before .before .pre .1 .1)
-
-squares-requires : tie.Need-squares-requires
-squares-requires c κs =
-    let s = c .before .before .before .before .before in
-    let low = s .pre .1 .0 .low (s .args .j) (s .pre .0 .1 .1 .0) in
-    let high = s .pre .1 .0 .high (s .args .j) (s .pre .0 .1 .1 .0) in
-    (s .pre .1 .0 .points (s .args .v) (s .pre .0 .1 .0), s .pre .1 .0 .points _ (omega arith))
+apart-requires-2 : tie.Need-apart-requires-2
+apart-requires-2 c κs =
+    let start = c .before .before .before in
+    let a = start .args in
+    (small-back (a .y) (start .fits .y) (omega (arith, start .pre .1 .near-y)), small-back (getD (a .ay .now) (a .j) (pos 0)) (record { sfits = c .apart-arg2 .given }) (start .pre .1 .near-b))
 
 add-square : tie.Need-add-square
-add-square c = search needs
+add-square c =
+    let start = c .before .before .before .before in
+    omega (
+      arith,
+      sum-fits (start .pre .1) (start .fits .x) (start .fits .y) (record { sfits = c .before .before .before .apart-arg .given }) (record { sfits = c .before .apart-arg2 .given })
+          (c .before .before .apart .ensures) (c .apart2 .ensures),
+    )
+
+returns : tie.Need-returns
+returns c =
+    let sum = c .before in
+    let start = sum .before .before .before .before in
+    sum-nearer (start .pre .1) (start .fits .x) (start .fits .y) (record { sfits = sum .before .before .before .apart-arg .given }) (record { sfits = sum .before .apart-arg2 .given })
+    (sum .before .before .apart .ensures) (sum .apart2 .ensures) _ (c .if1 .taken)
 
 returns-2 : tie.Need-returns-2
-returns-2 c = (least-first _ _ _ _ _ _ _ _ (c .before .before .before .before .before .before .before .pre .0 .1 .1 .1) _ (c .before .squares .ensures .0) (sym (c .before .before .before .is-taken .ensures) ∙ c .before .before .if1 .left) (c .if2 .taken), omega (arith, c .before .squares .ensures .1))
-
-returns-3 : tie.Need-returns-3
-returns-3 c = (least-closer _ _ _ _ _ _ _ _ (c .before .before .before .before .before .before .before .before .pre .0 .1 .1 .1) _ (c .before .before .squares .ensures .0) (sym (c .before .before .before .before .is-taken .ensures) ∙ c .before .before .before .if1 .left) (c .before .if2 .left) (c .if3 .taken), omega (arith, c .before .before .squares .ensures .1))
-
-returns-4 : tie.Need-returns-4
-returns-4 c = (least-kept _ _ _ _ _ _ _ _ (c .before .before .before .before .before .before .before .before .pre .0 .1 .1 .1) _ (c .before .before .squares .ensures .0) (sym (c .before .before .before .before .is-taken .ensures) ∙ c .before .before .before .if1 .left) (c .before .if2 .left) (c .if3 .left), c .before .before .before .before .before .before .before .before .pre .1 .1)
+returns-2 c =
+    let sum = c .before in
+    let start = sum .before .before .before .before in
+    sum-kept (start .pre .1) (start .fits .x) (start .fits .y) (record { sfits = sum .before .before .before .apart-arg .given }) (record { sfits = sum .before .apart-arg2 .given })
+    (sum .before .before .apart .ensures) (sum .apart2 .ensures) _ (c .if1 .left)
 
 pub closer-spec : {M : Type 1} → statement M
 closer-spec =
     tie.close
     (tie.spec
-    mul-number
-    shared-slice-read-number
-    cast-number
-    sub-node
-    is-taken-requires
-    returns
-    squares-requires
+    mul-apart
+    shared-slice-copy-out-apart
+    apart-requires
+    mul-apart-2
+    shared-slice-copy-out-apart-2
+    apart-requires-2
     add-square
-    returns-2
-    returns-3
-    returns-4)
+    returns
+    returns-2)
