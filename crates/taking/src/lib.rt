@@ -11,10 +11,10 @@ ghost use Rattle.memory.specs.Aim.{Ground, Aims, SameTaken};
 ghost use Rattle.memory.specs.Tree.{Tree, Bare, SameKeys};
 ghost use Rattle.taking.specs.Ways.{Arcs, Bounded, Linked};
 ghost use Rattle.taking.specs.Steps.{places, Live, Arrived, Reached, Relaxed, SameLens, Shut, Closed, OpenSite, Took, Looked, Aiming, Stays, Chosen};
-pub use group::link;
+pub use chain::link;
 use memory::Next;
 
-mod group;
+mod chain;
 
 // The search starts with the query node open at length 0, and all sites are aimed at.
 pub fn start(

@@ -3,8 +3,8 @@ use borrow.Author.Needs.{needs}
 use Prim.Native.Nat.{_-_}
 use native.Mathlib.Omega.{arith}
 use Rattle.taking.proofs.Chaining.{Linking, Due, due, link-none, link-one, link-all}
-use Rattle.taking.proofs.group.link.Statement.{statement}
-use Rattle.taking.proofs.group.link.Tie as tie
+use Rattle.taking.proofs.chain.link.Statement.{statement}
+use Rattle.taking.proofs.chain.link.Tie as tie
 
 abbrev Inv-loop : tie.InvT-loop
 Inv-loop tails n m starts₀ nexts₀ left₀ starts nexts left = Linking tails n m starts₀ nexts₀ starts nexts left
