@@ -4,3 +4,5 @@ pub mod Laws
 mod Faults
 mod Single
 mod Order
+-- the sites by one bit per node
+mod Marked

@@ -2,8 +2,9 @@
 use mathlib.Core.Path.{_≡_, refl, sym, ap, _∙_}
 use mathlib.Core.Bool.{Bool, true, false, cond, _&&_}
 use mathlib.Core.List.{List}
-use Prim.Native.Nat.{ℕ, _+_, _-_, _*_, _<_, _≤_}
+use Prim.Native.Nat.{ℕ, zero, suc, _+_, _-_, _*_, _<_, _≤_}
 use native.Mathlib.Numerals.{add-one}
+use native.Mathlib.Omega.{arith}
 use borrow.Author.Tests.{eq-eqb, ne-eqb, le-leb, lt-leb}
 use lib.Dec.{eqb}
 use lib.IntN.{ℤ}
@@ -74,6 +75,11 @@ module _ (sites : List ℕ) (number : ℕ) where
   pub among-more : (i : ℕ) → among i ≡ false → (getD sites i 0 ≡ number → ⊥) → among (i + 1) ≡ false
   unfolding any
   among-more i e q = rw (add-one, e, ne-eqb (getD sites i 0) number q)
+
+  pub among-not : (j : ℕ) → ((i : ℕ) → i < j → getD sites i 0 ≡ number → ⊥) → among j ≡ false
+  unfolding any
+  among-not zero q = refl
+  among-not (suc j) q = rw (among-not j (λ i l. q i (omega arith)), ne-eqb (getD sites j 0) number (q j (omega arith)))
 
   pub among-hit : (i j : ℕ) → i < j → getD sites i 0 ≡ number → among j ≡ true
   among-hit i j l q = T-true _ (any-of (λ h. eqb (getD sites h 0) number) j i l (true-T _ (eq-eqb (getD sites i 0) number q)))

@@ -1,13 +1,14 @@
 // A search's checks, in the paper's order.
 ghost use mathlib.Core.Path.{_≡_};
 ghost use mathlib.Core.Bool.{true, cond, _&&_};
-ghost use Prim.Native.Nat.{_≤_};
+ghost use Prim.Native.Nat.{_*_, _≤_};
 ghost use lib.ListN.{length};
 ghost use Rattle.meaning.specs.Limits.{base, valueOutside};
 ghost use Rattle.meaning.specs.Files.{isCoordinate};
 ghost use Rattle.meaning.specs.Region.{tables, rooms};
 ghost use Rattle.meaning.specs.Checks.{firstFault, countsFit, tablesFit, roomsFit, pointFault, arcFault, siteFault, inspect as verdictOf};
 ghost use Rattle.inspect.specs.Columns.{counted, pointsOf, arcsOf, sitesOf, arcFaultOf, AllPlaced, ofEntries};
+ghost use Rattle.inspect.specs.Sites.{IsNew, AllStand};
 use meaning::ARC_SHORT;
 use meaning::COUNT_OUTSIDE;
 use meaning::GIVEN_TWICE;
@@ -215,6 +216,38 @@ fn stands(sites: &[u16], n: usize, s: usize) -> Verdict
     }
 }
 
+// Whether the next site is another node than the earlier ones, which are marked; it is marked too.
+fn is_new(seen: &mut [u32], number: usize, n: usize) -> bool
+    requires { ⌜ n ≤ 32 * length (now seen) ⌝ }
+    ensures { λ r. ⌜ IsNew (now (seen .entry)) number n r (now (seen .exit)) ⌝ }
+{
+    if !reading::within(1, number, n) {
+        return false;
+    }
+    let k = number - 1;
+    if reading::marked(seen, k) {
+        return false;
+    }
+    reading::mark(seen, k);
+    true
+}
+
+// Whether no site is faulty, by one bit per node. Only where one is, its place is looked for.
+fn distinct(sites: &[u16], n: usize, s: usize) -> bool
+    requires { ⌜ (n ≤ 1024) × (s ≤ length (now sites)) ⌝ }
+    ensures { λ r. ⌜ AllStand (now (sites .entry)) n s r ⌝ }
+{
+    let mut seen = [0u32; 32];
+    let mut j = 0;
+    while j < s {
+        if !is_new(&mut seen, sites[j] as usize, n) {
+            return false;
+        }
+        j += 1;
+    }
+    true
+}
+
 // The entries of the tables: all coordinates, then all arcs, then all sites.
 fn entries(
     tails: &[u16],
@@ -227,6 +260,7 @@ fn entries(
     m: usize,
     s: usize,
 ) -> Verdict
+    requires { ⌜ n ≤ 1024 ⌝ }
     requires { ⌜ tablesFit (tables (now tails) (now heads) (now weights) (now xs) (now ys) (now sites) n m s) ≡ true ⌝ }
     ensures { λ r. ⌜ r ≡ ofEntries base (tables (now (tails .entry)) (now (heads .entry)) (now (weights .entry)) (now (xs .entry)) (now (ys .entry)) (now (sites .entry)) n m s) ⌝ }
 {
@@ -238,6 +272,9 @@ fn entries(
     let by_arc = arcs(limits, tails, heads, weights, xs, ys, n, m);
     if let Verdict::Faulty { number, place } = by_arc {
         return Verdict::Faulty { number, place };
+    }
+    if distinct(sites, n, s) {
+        return Verdict::Fine;
     }
     stands(sites, n, s)
 }

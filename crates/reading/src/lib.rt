@@ -10,6 +10,8 @@ ghost use Rattle.meaning.specs.Checks.{orElse};
 ghost use Rattle.reading.specs.Said.{saidAt};
 ghost use Rattle.reading.specs.Rows.{columns, Wide, secondOf, thirdOf, RowsRead};
 ghost use Rattle.reading.specs.Follows.{movedTo, onlyOnce, tooMany, dataFault, Small, Ready, Finishes, Answers, AnswersProblem, AnswersNext};
+pub use marks::mark;
+pub use marks::marked;
 use meaning::COUNT_OUTSIDE;
 use meaning::Counts;
 use meaning::DATA_MISCOUNTED;

@@ -1,9 +1,21 @@
 use borrow.Author.Needs.{needs}
 use borrow.Author.Tests.{not-false}
 use mathlib.Core.Path.{sym, _∙_}
+use Prim.Native.Nat.{_≤_}
 use Rattle.inspect.proofs.Order.{sizes, no-counts, no-tables, no-query, no-k, no-rooms, to-entries}
 use Rattle.inspect.proofs.inspect.Statement.{statement}
 use Rattle.inspect.proofs.inspect.Tie as tie
+
+-- behind the tests of the counts and of k
+abbrev start : tie.Else4 → tie.Start
+start c = c .before .before .before .before .before .before .before .before .before .before .before .before .before .before .before .before .before .before
+
+small : (c : tie.Else4) → (start c .args .n ≤ 1024) × (start c .args .k ≤ 32)
+small c =
+    let if1 = c .before .before .before .before .before .before in
+    let base = if1 .before .before in
+    let a = start c .args in
+    sizes (a .n) (a .m) (a .s) (a .k) (base .base .ensures) (if1 .before .counts-fit .ensures) (if1 .if1 .left) (c .before .within2 .ensures) (c .if4 .left)
 
 base-requires : tie.Need-base-requires
 base-requires c κs = search needs
@@ -43,11 +55,7 @@ returns-4 c =
     no-k _ _ _ _ (if1 .before .before .base .ensures) (if1 .before .counts-fit .ensures) (if1 .if1 .left) (if2 .before .tables-fit .ensures) (if2 .if2 .left) (if3 .before .within .ensures) (if3 .if3 .left) (c .before .within2 .ensures) (c .if4 .taken)
 
 rooms-fit-requires : tie.Need-rooms-fit-requires
-rooms-fit-requires c κs =
-    let if1 = c .before .before .before .before .before .before in
-    let base = if1 .before .before in
-    let a = base .before .before .before .before .before .before .before .before .before .before .args in
-    sizes (a .n) (a .m) (a .s) (a .k) (base .base .ensures) (if1 .before .counts-fit .ensures) (if1 .if1 .left) (c .before .within2 .ensures) (c .if4 .left)
+rooms-fit-requires c κs = small c
 
 returns-5 : tie.Need-returns-5
 returns-5 c =
@@ -59,8 +67,9 @@ returns-5 c =
 
 entries-requires : tie.Need-entries-requires
 entries-requires c κs =
-    let if2 = c .before .before .before .before .before .before in
-    sym (if2 .before .tables-fit .ensures) ∙ not-false (if2 .before .tables-fit .result) (if2 .if2 .left)
+    let if4 = c .before .before in
+    let if2 = if4 .before .before .before .before in
+    (small if4 .0, sym (if2 .before .tables-fit .ensures) ∙ not-false (if2 .before .tables-fit .result) (if2 .if2 .left))
 
 returns-6 : tie.Need-returns-6
 returns-6 c =
