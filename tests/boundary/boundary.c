@@ -1023,7 +1023,7 @@ static size_t stack_of(int which) {
 
 int main(int argc, char **argv) {
     uint64_t asked = argc > 1 ? strtoull(argv[1], NULL, 10) : 100000;
-    size_t i, j, readers = 0;
+    size_t i, j;
     struct sigaction on_hurt;
     first_seed = argc > 2 ? strtoull(argv[2], NULL, 10) : 9;
     seed_now = first_seed;
@@ -1064,9 +1064,7 @@ int main(int argc, char **argv) {
     }
     kind_now = SEARCH;
     make_region(1);
-    for (i = 0; i < 3; i++)
-        if (stack_of((int)i) > readers) readers = stack_of((int)i);
-    printf("stack: a reader took %zu bytes, a search %zu (with the frame that called it)\n", readers, stack_of(3));
+    printf("stack in bytes, with the frame of the caller: wick_read_graph %zu, wick_read_coordinates %zu, wick_read_sites %zu, wick_search %zu\n", stack_of(0), stack_of(1), stack_of(2), stack_of(3));
     printf("%" PRIu64 " passed, %" PRIu64 " failed\n", done - (failed < done ? failed : done), failed);
     return failed != 0;
 }
