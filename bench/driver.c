@@ -12,7 +12,7 @@
 #include <stdlib.h>
 #include <time.h>
 
-enum { QUERIES = 128, K = 5 };
+enum { QUERIES = 128, K = WICK_PANEL_K };
 
 static unsigned rounds = 15;
 

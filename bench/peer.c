@@ -11,7 +11,7 @@ enum {
     WEIGHT_MOST = 1000000,
     COORDINATE_MOST = 200000000,
     K_MOST = 32,
-    PANEL_K = 5
+    PANEL_K = 4
 };
 
 enum {

@@ -28,7 +28,7 @@ extern "C" {
 #define WICK_WEIGHT_MOST 1000000
 #define WICK_COORDINATE_MOST 200000000
 #define WICK_K_MOST 32
-#define WICK_PANEL_K 5
+#define WICK_PANEL_K 4
 
 /* ---- the entries that a search's buffers need, for n nodes and k sites; with WICK_NODES_MOST they serve every region */
 
@@ -123,7 +123,7 @@ wick_answer wick_search(const uint16_t *tails, size_t tails_len,
                         uint16_t *ends, size_t ends_len,
                         uint16_t *routes, size_t routes_len);
 
-/* The panel call: wick_search with k = 5. */
+/* The panel call: wick_search with k = WICK_PANEL_K. */
 wick_answer wick_panel(const uint16_t *tails, size_t tails_len,
                        const uint16_t *heads, size_t heads_len,
                        const uint32_t *weights, size_t weights_len,

@@ -18,7 +18,7 @@ import math
 import random
 import sys
 
-NODES, ARCS, SITES, WEIGHT, COORDINATE, K, PANEL = 1024, 4096, 128, 1000000, 200000000, 32, 5
+NODES, ARCS, SITES, WEIGHT, COORDINATE, K, PANEL = 1024, 4096, 128, 1000000, 200000000, 32, 4
 COLUMNS = ["tails", "heads", "weights", "xs", "ys", "sites"]
 BUFFERS = {"work": 4200, "listed": 40, "lengths": 40, "ends": 40, "routes": 33000}
 COUNT, NARROW, WIDE, SIGNED = 2**64 - 1, 2**16 - 1, 2**32 - 1, -(2**31)
@@ -240,6 +240,9 @@ def marked():
     for query in range(8):
         yield f"the panel call from {query}", Case(*WORKED, query, panel=True)
     yield "the panel call names no k", Case(*WORKED, 1, 0, panel=True)
+    for count in (PANEL - 1, PANEL, PANEL + 1):
+        star = [(1, v, v) for v in range(2, count + 2)]
+        yield f"the panel call with {count} sites in reach", Case([(0, 0)] * (count + 1), star, range(2, count + 2), 1, panel=True)
     for query in range(1, 7):
         yield f"all sites from {query}", Case(*WORKED, query, 3)
 

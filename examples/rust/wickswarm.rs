@@ -5,7 +5,7 @@ pub const TEXT_MOST: usize = 65_536;
 pub const NODES_MOST: usize = 1_024;
 pub const ARCS_MOST: usize = 4_096;
 pub const SITES_MOST: usize = 128;
-pub const PANEL_K: usize = 5;
+pub const PANEL_K: usize = 4;
 
 /// The entries that the work memory of a search needs, and its routes, for n nodes and k sites. The three lists need k entries each.
 pub const fn work_entries(n: usize) -> usize {
@@ -185,7 +185,7 @@ pub fn search(region: &Region, query: usize, k: usize, rooms: &mut Rooms) -> Ans
     })
 }
 
-/// The panel call: a search with k = 5.
+/// The panel call: a search with k = [`PANEL_K`].
 pub fn panel(region: &Region, query: usize, rooms: &mut Rooms) -> Answer {
     answer(unsafe {
         calls::wick_panel(

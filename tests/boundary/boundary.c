@@ -684,7 +684,7 @@ static void make_region(int big) {
     m = big ? below(WICK_ARCS_MOST + 1) : below(4 * n + 1);
     s = below(least(n, big ? WICK_SITES_MOST : 9) + 1);
     query = 1 + below(n);
-    k = kind_now == PANEL ? 5 : 1 + below(once_in(3) ? 32 : 6);
+    k = kind_now == PANEL ? WICK_PANEL_K : 1 + below(once_in(3) ? 32 : 6);
     if (big) spread = 400;
     lay(XS, wide_of(XS, n));
     lay(YS, wide_of(YS, n));

@@ -15,7 +15,7 @@ const ARCS: i64 = 4_096;
 const SITES: i64 = 128;
 const WEIGHT: i64 = 1_000_000;
 const COORDINATE: i64 = 200_000_000;
-const PANEL: usize = 5;
+const PANEL: usize = 4;
 
 /// A refusal's number and place.
 struct Refusal(u32, usize);

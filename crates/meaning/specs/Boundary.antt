@@ -94,7 +94,7 @@ pub record SearchCalled (L : Limits) (t : Tables) (q k : ℕ) (before after : Ro
   pub outcome : Searched L t q k before after answer
   pub returned-is : returned ≡ answerCode answer
 
--- "The panel call names no k and uses k = 5. It is otherwise the same call."
+-- "The panel call names no k .. It is otherwise the same call."
 pub record PanelCalled (L : Limits) (t : Tables) (q : ℕ) (before after : Rooms) (returned : ℕ) : Type 0 where
   pub answer : Answer
   pub outcome : Panelled L t q before after answer

@@ -7,9 +7,9 @@ use Rattle.meaning.specs.declared.Limits.{Limits}
 abbrev pub base : Limits
 base = record { text = 65536; nodes = 1024; arcs = 4096; sites = 128; weight = 1000000; coordinate = 200000000; k = 32 }
 
--- "The panel call names no k and uses k = 5."
+-- "The panel call's k, and so the list program's, becomes 4." (E1)
 abbrev pub panelK : ℕ
-panelK = 5
+panelK = 4
 
 -- 1: "text over 65,536 bytes"
 abbrev pub textTooLong : ℕ

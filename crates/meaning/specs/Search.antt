@@ -70,7 +70,7 @@ judged (Faulty number place) t q k before after answer = Kept number place befor
 abbrev pub Searched : Limits → Tables → ℕ → ℕ → Rooms → Rooms → Answer → Type 0
 Searched L t q k before after answer = judged (inspect L t q k before) t q k before after answer
 
--- "The panel call names no k and uses k = 5. It is otherwise the same call."
+-- "The panel call names no k .. It is otherwise the same call."
 abbrev pub Panelled : Limits → Tables → ℕ → Rooms → Rooms → Answer → Type 0
 Panelled L t q before after answer = Searched L t q panelK before after answer
 

@@ -13,13 +13,16 @@ pub struct Limits {
     pub k: usize,
 }
 
-// The one place where the code has these numbers.
+// The largest N, by which a program measures its own rooms.
+pub const NODES_MOST: usize = 1024;
+
+// The limits in the code, equal to the definition's.
 pub fn base() -> Limits
     ensures { λ r. ⌜ r ≡ baseLimits ⌝ }
 {
     Limits {
         text: 65536,
-        nodes: 1024,
+        nodes: NODES_MOST,
         arcs: 4096,
         sites: 128,
         weight: 1000000,
@@ -56,7 +59,7 @@ pub const K_OUTSIDE: usize = 12;
 pub const ROOM_SHORT: usize = 13;
 
 // The panel call's k.
-pub const PANEL_K: usize = 5;
+pub const PANEL_K: usize = 4;
 
 // Which of the three texts.
 pub enum Kind {

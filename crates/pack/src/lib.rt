@@ -2,6 +2,8 @@
 use libc::STDERR_FILENO;
 use libc::STDOUT_FILENO;
 use meaning::Answer;
+use meaning::NODES_MOST;
+use meaning::PANEL_K;
 use meaning::Read;
 
 fn word(w: &[u8]) {
@@ -104,10 +106,10 @@ fn answer(
     aloud: bool,
     work: &mut [u32],
 ) -> bool {
-    let mut listed = [0u16; 5];
-    let mut lengths = [0u32; 5];
-    let mut ends = [0u16; 5];
-    let mut routes = [0u16; 5120];
+    let mut listed = [0u16; PANEL_K];
+    let mut lengths = [0u32; PANEL_K];
+    let mut ends = [0u16; PANEL_K];
+    let mut routes = [0u16; PANEL_K * NODES_MOST];
     match search::panel(
         tails,
         heads,
@@ -197,7 +199,7 @@ fn with_sites(
     ask: &[u8],
 ) {
     let mut asked = [0u16; 128];
-    let mut work = [0u32; 4096];
+    let mut work = [0u32; 4 * NODES_MOST];
     match readers::read_sites(ask, n, &mut asked) {
         Read::Refused { number, place } => refused(aloud, b"ask.ss", b", line ", number, place),
         Read::Accepted { nodes, rows } => queries(
@@ -260,8 +262,8 @@ fn with_graph(
     stands: &[u8],
     ask: &[u8],
 ) {
-    let mut xs = [0i32; 1024];
-    let mut ys = [0i32; 1024];
+    let mut xs = [0i32; NODES_MOST];
+    let mut ys = [0i32; NODES_MOST];
     match readers::read_coordinates(points, n, &mut xs, &mut ys) {
         Read::Refused { number, place } => refused(aloud, b"map.co", b", line ", number, place),
         Read::Accepted { nodes, rows } => with_points(

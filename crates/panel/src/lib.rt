@@ -122,7 +122,7 @@ pub extern "C" fn wick_search(
     ))
 }
 
-// The panel call: k is 5.
+// The panel call: the search with the panel's own k.
 #[no_mangle]
 pub extern "C" fn wick_panel(
     tails: &[u16],

@@ -234,7 +234,7 @@ pub fn search(
     }
 }
 
-// The panel call: k is 5.
+// The panel call: the search with k = PANEL_K.
 pub fn panel(
     tails: &[u16],
     heads: &[u16],
