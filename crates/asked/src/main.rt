@@ -1,5 +1,7 @@
 // Runs the search, the panel call and the route stretch on the cases of its standard input, and prints what each answers and
 // what every buffer that it was lent then holds.
+#![tactic(auto)]
+
 ghost use Rattle.std.specs.Prelude.{◌≤◌, length};
 
 use libc::{STDIN_FILENO, STDOUT_FILENO};

@@ -1,4 +1,6 @@
 // Runs the readers on the cases of its standard input, and prints what each answers and a digest of each table that it was lent.
+#![tactic(auto)]
+
 ghost use Rattle.std.specs.Prelude.{◌≤◌, ◌<◌};
 
 use libc::{STDIN_FILENO, STDOUT_FILENO};

@@ -1,4 +1,6 @@
 // What a line of each of the three texts says.
+#![tactic(auto)]
+
 ghost use Rattle.std.specs.Prelude.{◌≡◌};
 ghost use Rattle.meaning.specs.Text.{fields};
 ghost use Rattle.meaning.specs.Grammar.{last_number, last_signed, aux_count, graph_counts, point_counts, site_counts, problem_of, arc_data, point_data, site_data, data_of, line_of};

@@ -3,20 +3,20 @@ ghost use Rattle.std.specs.Prelude.{◌≡◌, ◌<◌, ◌≤◌, length};
 ghost use Rattle.grammar.specs.Plain.{ArcSaid, PointSaid, SiteSaid, DigitsSaid, CoordinateSaid, Reached, Closed, MinusSaid, StartSaid};
 
 // A number, and where what follows it starts: 0 where no number stands there.
-#[derive(Drop)]
+#[derive(Clone, Copy)]
 struct Unsigned {
     value: usize,
     next: usize,
 }
 
-#[derive(Drop)]
+#[derive(Clone, Copy)]
 struct WithSign {
     value: i32,
     next: usize,
 }
 
 // A line's numbers, and where the next line starts: 0 where the line isn't plain.
-#[derive(Drop)]
+#[derive(Clone, Copy)]
 pub struct PlainArc {
     pub tail: usize,
     pub head: usize,
@@ -24,7 +24,7 @@ pub struct PlainArc {
     pub next: usize,
 }
 
-#[derive(Drop)]
+#[derive(Clone, Copy)]
 pub struct PlainPoint {
     pub node: usize,
     pub x: i32,
@@ -32,7 +32,7 @@ pub struct PlainPoint {
     pub next: usize,
 }
 
-#[derive(Drop)]
+#[derive(Clone, Copy)]
 pub struct PlainSite {
     pub node: usize,
     pub next: usize,

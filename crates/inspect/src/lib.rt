@@ -1,4 +1,6 @@
 // A search's checks, in the paper's order.
+#![tactic(auto)]
+
 ghost use Rattle.std.specs.Prelude.{◌≡◌, true, cond, ◌&&◌, ◌*◌, ◌≤◌, length};
 ghost use Rattle.meaning.specs.Limits.{base, value_outside};
 ghost use Rattle.meaning.specs.Files.{is_coordinate};

@@ -1,5 +1,7 @@
 // The list program: reads map.gr, map.co, sites.ss and ask.ss in the folder that it is run in, and prints the list of each query. With an argument it tells
 // a refusal in words too.
+#![tactic(auto)]
+
 ghost use Rattle.std.specs.Prelude.{◌≤◌, length};
 
 // Whether the file has ended where the reading stopped. Reading again tells the end from a fault.

@@ -71,7 +71,7 @@ module _ (E : ℕ → ℕ → Type 0) where
   unique {C} asym [] [] F G = refl
   unique {C} asym [] (y ∷ ys) F G = let z = (F.rest y (G.mem y (memb_head y ys)) tt).0 in let l = G.size in absurd (omega arith)
   unique {C} asym (x ∷ xs) [] F G = let z = (G.rest x (F.mem x (memb_head x xs)) tt).0 in let l = F.size in absurd (omega arith)
-  unique {C} asym {k} (x ∷ xs) (y ∷ ys) F G = go (ℕ_discrete x y) (λ a b. unique (λ v w c d. asym v w c.0 d.0) xs ys a b)
+  unique {C} asym {k} (x ∷ xs) (y ∷ ys) F G = go (ℕ_discrete x y) (λ a b. unique {C = λ v. C v × (x ≡ v → ⊥)} (λ v w c d. asym v w c.0 d.0) xs ys a b)
     where
       cx : C x
       cx = F.mem x (memb_head x xs)

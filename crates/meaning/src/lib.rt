@@ -1,9 +1,11 @@
 // The words in which the library speaks: its limits, what a line of a text says, and its answers. What each of them means stands in specs/.
+#![tactic(auto)]
+
 ghost use Rattle.std.specs.Prelude.{◌≡◌};
-ghost use Rattle.meaning.specs.Limits.{base as baseLimits};
+ghost use Rattle.meaning.specs.Limits.{base as base_limits};
 
 // The limits of the paper, in one record: text in bytes, weight and coordinate as the largest sizes permitted.
-#[derive(Drop)]
+#[derive(Clone, Copy)]
 pub struct Limits {
     pub text: usize,
     pub nodes: usize,
@@ -19,7 +21,7 @@ pub const NODES_MOST: usize = 1024;
 
 // The limits in the code, equal to the definition's.
 pub fn base() -> Limits
-    ensures { result ≡ baseLimits }
+    ensures { result ≡ base_limits }
 {
     Limits {
         text: 65536,
@@ -63,7 +65,7 @@ pub const ROOM_SHORT: usize = 13;
 pub const PANEL_K: usize = 4;
 
 // Which of the three texts.
-#[derive(Drop)]
+#[derive(Clone, Copy)]
 pub enum Kind {
     Graph,
     Coordinates,
@@ -71,27 +73,27 @@ pub enum Kind {
 }
 
 // A field read as a number, and as a coordinate.
-#[derive(Drop)]
+#[derive(Clone, Copy)]
 pub enum Number {
     Value(usize),
     NoNumber,
 }
 
-#[derive(Drop)]
+#[derive(Clone, Copy)]
 pub enum Signed {
     At(i32),
     NoCoordinate,
 }
 
 // The counts of a problem line: the nodes, and the data lines to come.
-#[derive(Drop)]
+#[derive(Clone, Copy)]
 pub struct Counts {
     pub nodes: usize,
     pub rows: usize,
 }
 
 // What a data line says: a U V W, v ID X Y, s ID.
-#[derive(Drop)]
+#[derive(Clone, Copy)]
 pub enum Entry {
     Arc {
         tail: usize,
@@ -109,7 +111,7 @@ pub enum Entry {
 }
 
 // What a line says.
-#[derive(Drop)]
+#[derive(Clone, Copy)]
 pub enum Line {
     Nothing,
     Problem(Counts),
@@ -118,7 +120,7 @@ pub enum Line {
 }
 
 // What a text is held to: the limits, which text it is, the N handed in (a graph text is handed none) and the room for its data.
-#[derive(Drop)]
+#[derive(Clone, Copy)]
 pub struct Rules {
     pub limits: Limits,
     pub kind: Kind,
@@ -127,21 +129,21 @@ pub struct Rules {
 }
 
 // The answer of a reader: the refusal's number and place, or the counts of the problem line.
-#[derive(Drop)]
+#[derive(Clone, Copy)]
 pub enum Read {
     Refused { number: usize, place: usize },
     Accepted { nodes: usize, rows: usize },
 }
 
 // The verdict of a search's checks.
-#[derive(Drop)]
+#[derive(Clone, Copy)]
 pub enum Verdict {
     Fine,
     Faulty { number: usize, place: usize },
 }
 
 // The answer of a search: the refusal's number and place, or how many sites are listed and how many nodes were taken.
-#[derive(Drop)]
+#[derive(Clone, Copy)]
 pub enum Answer {
     Denied { number: usize, place: usize },
     Listed { sites: usize, taken: usize },

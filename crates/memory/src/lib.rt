@@ -1,4 +1,6 @@
 // The work memory of a search: what stands where (specs/Memory, specs/Tree), the open node that goes next, and the estimate of a node.
+#![tactic(auto)]
+
 ghost use Rattle.std.specs.Prelude.{◌≡◌, ◌+◌, ◌-◌, ◌*◌, ◌%◌, ◌≤◌, ◌<◌, eqb, length, get_or, replicate};
 ghost use Rattle.meaning.specs.Search.{over};
 ghost use Rattle.memory.specs.Memory.{is_taken, key_at, SiteTold};
@@ -11,7 +13,7 @@ mod estimate;
 mod tree;
 
 // The open node to be taken next.
-#[derive(Drop)]
+#[derive(Clone, Copy)]
 pub enum Next {
     Node(usize),
     Nothing,

@@ -1,4 +1,6 @@
 // A pack's four texts, read in order, and the list of each query printed. What is printed is decided by the readers and the panel call; here lines are written.
+#![tactic(auto)]
+
 use libc::{STDERR_FILENO, STDOUT_FILENO};
 use meaning::{Answer, NODES_MOST, PANEL_K, Read};
 

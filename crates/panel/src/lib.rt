@@ -1,5 +1,7 @@
 // The library's calls for a panel in C, C++ or Rust, over plain numbers and slices. A slice is a pointer and a number of entries there.
 // An answer comes back by value, as one number (include/wickswarm.h takes it apart), so that a refused call writes nothing at all.
+#![tactic(auto)]
+
 ghost use Rattle.std.specs.Prelude.{◌≡◌, ◌<◌};
 ghost use Rattle.meaning.specs.Limits.{base};
 ghost use Rattle.meaning.specs.Region.{tables, rooms};

@@ -1,4 +1,6 @@
 // The three readers: a text is judged whole, its entries kept as rows, before a table is written.
+#![tactic(auto)]
+
 ghost use Rattle.std.specs.Prelude.{◌≡◌, min};
 ghost use Rattle.meaning.specs.Limits.{base};
 ghost use Rattle.meaning.specs.Files.{GraphRead, CoordinatesRead, SitesRead};

@@ -1,4 +1,6 @@
 // Judges a text: its size, the N handed in, and its lines in order. The marks of the nodes given are written, and a row for each entry.
+#![tactic(auto)]
+
 ghost use Rattle.std.specs.Prelude.{◌≡◌, ◌≤◌, length, nat_abs};
 ghost use Rattle.meaning.specs.Limits.{base};
 ghost use Rattle.meaning.specs.Files.{awaiting, within as isWithin, is_coordinate, most_rows, agrees as isAgreed, counts_fault, entry_fault, node_of, read_from, handed_in, reading, answered};
@@ -18,7 +20,7 @@ use text::Piece;
 mod marks;
 
 // How far the lines have been judged: where the next one starts, the counts of the problem line, no nodes before it, and the data lines since.
-#[derive(Drop)]
+#[derive(Clone, Copy)]
 struct State {
     at: usize,
     nodes: usize,
@@ -27,14 +29,14 @@ struct State {
 }
 
 // After a line: a refusal's number, 0 to go on.
-#[derive(Drop)]
+#[derive(Clone, Copy)]
 struct Step {
     number: usize,
     state: State,
 }
 
 // What a line says, and where the next starts.
-#[derive(Drop)]
+#[derive(Clone, Copy)]
 struct Said {
     line: Line,
     next: usize,

@@ -1,4 +1,6 @@
 // Runs the list over the regions of its standard input: for each a line with the sizes of its four texts, then the texts. A blank line follows each list.
+#![tactic(auto)]
+
 ghost use Rattle.std.specs.Prelude.{◌≤◌, length};
 
 use libc::{STDIN_FILENO, STDOUT_FILENO};

@@ -1,4 +1,6 @@
 // The routes: back from each listed site by the nodes before, and written from query to site.
+#![tactic(auto)]
+
 ghost use Rattle.std.specs.Prelude.{◌≡◌, map, suc, ◌+◌, ◌*◌, ◌≤◌, ◌<◌, length, take};
 ghost use Rattle.std.proofs.lemmas.List.Edits.{sets};
 ghost use Rattle.meaning.specs.Search.{over, back_to_back, ends_after};

@@ -1,4 +1,6 @@
 // The search, the panel call and the stretch of a listed route.
+#![tactic(auto)]
+
 ghost use Rattle.std.specs.Prelude.{◌≡◌, ◌-◌, ◌*◌, ◌≤◌, ◌<◌, length, get_or};
 ghost use Rattle.meaning.specs.Limits.{base};
 ghost use Rattle.meaning.specs.Region.{tables, rooms};
@@ -11,7 +13,7 @@ use meaning::{Answer, PANEL_K, Verdict};
 use memory::Next;
 
 // How many sites are listed, and how many nodes were taken.
-#[derive(Drop)]
+#[derive(Clone, Copy)]
 struct Tally {
     sites: usize,
     taken: usize,

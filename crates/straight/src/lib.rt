@@ -1,14 +1,16 @@
 // Road and straight line: the whole root, squared distances, and the total, where the two kinds of length meet.
+#![tactic(auto)]
+
 ghost use Rattle.std.specs.Prelude.{◌≡◌, ◌*◌, ◌≤◌, nat_abs};
 ghost use Rattle.meaning.specs.Straight.{gap, root as rootOf, squares as squaresOf};
 ghost use Rattle.meaning.specs.Taking.{total as total_of};
 ghost use Rattle.straight.specs.Points.{Placed, entry, farthest};
 
 // A length by road, d_N, and a straight line's length, d_E.
-#[derive(Drop)]
+#[derive(Clone, Copy)]
 pub struct Road(pub u32);
 
-#[derive(Drop)]
+#[derive(Clone, Copy)]
 pub struct Line(pub u32);
 
 // The largest whole number whose square is at most x, by Newton's method: the first guess is a power of two above the root, and each

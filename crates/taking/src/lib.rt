@@ -1,4 +1,6 @@
 // A step of the taking rule, in the work memory: the search's start, a node chosen, and a node taken.
+#![tactic(auto)]
+
 ghost use Rattle.std.specs.Prelude.{◌≡◌, false, ◌+◌, ◌*◌, ◌%◌, ◌≤◌, ◌<◌, eqb, length, get_or, drop, replicate};
 ghost use Rattle.meaning.specs.Region.{tables, region_of};
 ghost use Rattle.meaning.specs.Taking.{start as start_of};

@@ -1,4 +1,6 @@
 // Lines, fields, words and numbers of a text of bytes.
+#![tactic(auto)]
+
 ghost use Rattle.std.specs.Prelude.{◌≡◌};
 ghost use Rattle.meaning.specs.Text.{trim, is_blank, fields, first, others, none, same as sameBytes, number as number_of, plus, minus, signed as signed_of};
 ghost use Rattle.text.specs.Scan.{run, in_line, is_ink, lead as leadOf, Below};
@@ -7,7 +9,7 @@ ghost use Rattle.text.specs.Read.{piece_at, past_of, moved_to};
 use meaning::{Number, Signed};
 
 // A line of a text: where it starts, its length, and where the next starts.
-#[derive(Drop)]
+#[derive(Clone, Copy)]
 pub enum Piece {
     Line(usize, usize, usize),
     End,
