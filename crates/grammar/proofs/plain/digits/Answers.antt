@@ -1,0 +1,15 @@
+use Rattle.std.proofs.Common.{◌-◌, refl, arith, rules}
+use Rattle.grammar.proofs.Lines.{Sofar, sofar_none, sofar_small, sofar_more, sofar_closed}
+use Rattle.grammar.proofs.plain.digits.Goals as goal
+
+pub returns-then-digit-gt9 : goal.returns-then-digit-gt9
+returns-then-digit-gt9 c = sofar_closed c.loop-i.invariant (omega arith) (omega arith) c.closed.ensures
+
+pub overflow_mul-value : goal.overflow_mul-value
+overflow_mul-value c = omega (arith, sofar_small c.loop-i.invariant (omega arith))
+
+pub overflow_add-value : goal.overflow_add-value
+overflow_add-value c = omega (arith, sofar_small c.loop-i.invariant (omega arith))
+
+pub loop-i-preserved : goal.loop-i-preserved
+loop-i-preserved c = sofar_more c.loop-i.invariant (omega arith) c.wrapping_sub_u8-digit.result (omega arith) (omega (arith, c.wrapping_sub_u8-digit.ensures))

@@ -1,0 +1,10 @@
+use Rattle.std.proofs.Common.{◌-◌, refl, arith, rules}
+use Rattle.grammar.proofs.Lines.{Sofar, sofar_none, sofar_small, sofar_more, sofar_closed}
+use Rattle.grammar.proofs.plain.digits.Given as goal
+
+-- the bytes from at to i are digits, and value is theirs
+abbrev pub invariant-loop-i : goal.invariant-loop-i
+invariant-loop-i l = Sofar l.text l.at l.i l.value
+
+abbrev pub decreases-loop-i : goal.decreases-loop-i
+decreases-loop-i l = l.most - l.i
