@@ -1,0 +1,13 @@
+use mathlib.Core.Path.{◌≡◌}
+use Prim.Native.Nat.{◌-◌, ◌≤◌}
+use native.Mathlib.Omega.{arith}
+use borrow.Author.Rules.{rules}
+use mir.Facts.{to_z-of_z}
+use Rattle.memory.proofs.Aims.{Gathered, gathered_none, gathered_next, site_below, aims_all}
+use Rattle.memory.proofs.estimate.gather.Given as goal
+
+abbrev pub invariant-loop-j : goal.invariant-loop-j
+invariant-loop-j l = (l.j ≤ l.s) × Gathered l.xs l.sites l.j l.initial.ax l.ax × Gathered l.ys l.sites l.j l.initial.ay l.ay
+
+abbrev pub decreases-loop-j : goal.decreases-loop-j
+decreases-loop-j l = l.s - l.j

@@ -1,0 +1,7 @@
+use native.Mathlib.Omega.{arith}
+use mathlib.Core.Path.{refl}
+use borrow.Author.Rules.{rules}
+use Rattle.reading.proofs.advanced.Goals as goal
+
+pub returns-in-Problem : goal.returns-in-Problem
+returns-in-Problem c = λ p k. rw c.in-Problem.is (c.begun.ensures _ _ p k)

@@ -1,0 +1,30 @@
+use Rattle.reading.specs.Rows.{Columns, columns}
+use Rattle.reading.proofs.Lines.{SameLengths, Judged, judged_start, judged_ready, judged_stop, judged_up, judged_on, judged_end, judged_rows}
+use borrow.Author.Rules.{rules}
+use native.Mathlib.Omega.{arith}
+use Prim.Native.Nat.{◌+◌, ◌-◌}
+use mathlib.Core.Path.{refl, sym, ◌∙◌}
+use lib.ListN.{length}
+use Rattle.reading.proofs.judge.Goals as goal
+
+pub loop-st-init : goal.loop-st-init
+loop-st-init c = judged_start _ _ _
+
+pub returns-then-number-ne0 : goal.returns-then-number-ne0
+returns-then-number-ne0 c =
+    let left : Columns = let last = c.next_line-step.new in columns last.1.1.1.1.0 last.1.1.1.1.1.0 last.1.1.1.1.1.1.0 in
+    rw (judged_stop c.args.rules c.args.text.now _ _ _ c.loop-st.st c.loop-st.place c.loop-st.invariant c.loop-st-test.true c.next_line-step.result _ left c.next_line-step.ensures c.if-number-ne0.true) (tt, refl)
+
+pub loop-st-smaller : goal.loop-st-smaller
+loop-st-smaller c =
+    let left : Columns = let last = c.next_line-step.new in columns last.1.1.1.1.0 last.1.1.1.1.1.0 last.1.1.1.1.1.1.0 in
+    omega (arith, judged_up c.args.rules c.args.text.now _ _ _ c.loop-st.st c.loop-st.place c.loop-st.invariant c.loop-st-test.true c.next_line-step.result _ left c.next_line-step.ensures c.if-number-ne0.false, c.loop-st-test.true)
+
+pub loop-st-preserved : goal.loop-st-preserved
+loop-st-preserved c =
+    let lent : Columns = let args = c.args in columns args.nodes.now args.seconds.now args.thirds.now in
+    let left : Columns = let last = c.next_line-step.new in columns last.1.1.1.1.0 last.1.1.1.1.1.0 last.1.1.1.1.1.1.0 in
+    let lengths : SameLengths lent left = let kept = c.next_line-step.auto in
+    let lengths = c.loop-st.invariant.lengths in
+    record { nodes = kept.1.1.1.1.0 ∙ lengths.nodes; seconds = kept.1.1.1.1.1.0 ∙ lengths.seconds; thirds = kept.1.1.1.1.1.1.0 ∙ lengths.thirds } in
+    judged_on c.args.rules c.args.text.now _ _ _ c.loop-st.st c.loop-st.place c.loop-st.invariant c.loop-st-test.true c.next_line-step.result _ left c.next_line-step.ensures c.if-number-ne0.false (c.next_line-step.auto.seen ∙ c.loop-st.invariant.size) lengths
