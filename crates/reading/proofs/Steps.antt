@@ -134,10 +134,10 @@ small L n (Arc u v w) q h z =
 small L n (Point v x y) q h z = tt
 small L n (Site v) q h z = tt
 
-most_rows : (kind : Kind) → most_rows base kind ≤ 4096
-most_rows Graph = omega arith
-most_rows Coordinates = omega arith
-most_rows Sites = omega arith
+most_rows_lem : (kind : Kind) → most_rows base kind ≤ 4096
+most_rows_lem Graph = omega arith
+most_rows_lem Coordinates = omega arith
+most_rows_lem Sites = omega arith
 
 -- the entry's node has a bit, and its numbers a place in each column
 pub record Fitting (e : Entry) (place : ℕ) (C : Columns) : Type 0 where
@@ -184,7 +184,7 @@ module _ (R : Rules) (e : Entry) (s : State) where
           low = n.low;
           high = omega (arith, ready.few);
           small = small R.limits s.nodes e ready.limits ready.few a.1;
-          few = omega (arith, ready.room, most_rows R.kind);
+          few = omega (arith, ready.room, most_rows_lem R.kind);
           nodes = omega (arith, ready.room, ready.wide.nodes);
           seconds = omega (arith, ready.room, ready.wide.seconds);
           thirds = omega (arith, ready.room, ready.wide.thirds);
