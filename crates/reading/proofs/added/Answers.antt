@@ -9,89 +9,86 @@ use Rattle.reading.proofs.added.Goals as goal
 
 pub returns-then-number-ne0 : goal.returns-then-number-ne0
 returns-then-number-ne0 c =
-    let args = c.args in
-    data_fault_lem args.rules args.e args.st c.if-st-eq0.false c.data_fault-number.result c.data_fault-number.ensures c.if-number-ne0.true args.seen.now (columns args.nodes.now args.seconds.now args.thirds.now)
+    data_fault_lem c.args.rules c.args.e c.args.st c.if-st-eq0.false c.data_fault-number.result c.data_fault-number.ensures c.if-number-ne0.true c.args.seen.now (columns c.args.nodes.now c.args.seconds.now c.args.thirds.now)
 
 pub overflow_sub-k : goal.overflow_sub-k
 overflow_sub-k c =
-    let fine : data_fault c.args.rules.limits c.args.st c.args.e ≡ 0 = sym c.data_fault.ensures ∙ c.if2.false in
+    let fine : data_fault c.args.rules.limits c.args.st c.args.e ≡ 0 = sym c.data_fault-number.ensures ∙ c.if-number-ne0.false in
     let fit : Fitting c.args.e c.args.st.count (columns c.args.nodes.now c.args.seconds.now c.args.thirds.now) = data_fits c.args.rules c.args.e c.args.st _ _ c.requires fine in
     omega (arith, fit.low, c.node_of-node.ensures)
 
 pub marked-requires : goal.marked-requires
 marked-requires c =
-    let fine : data_fault c.args.rules.limits c.args.st c.args.e ≡ 0 = sym c.data_fault.ensures ∙ c.if2.false in
+    let fine : data_fault c.args.rules.limits c.args.st c.args.e ≡ 0 = sym c.data_fault-number.ensures ∙ c.if-number-ne0.false in
     let fit : Fitting c.args.e c.args.st.count (columns c.args.nodes.now c.args.seconds.now c.args.thirds.now) = data_fits c.args.rules c.args.e c.args.st _ _ c.requires fine in
     omega (arith, fit, c.node_of-node.ensures, c.requires.marks)
 
 pub returns-then-only_once : goal.returns-then-only_once
 returns-then-only_once c =
-    let fine : data_fault c.args.rules.limits c.args.st c.args.e ≡ 0 = sym c.data_fault.ensures ∙ c.if2.false in
-    let args = c.args in
-    data_twice args.rules args.e args.st _ _ c.requires fine c.if-st-eq0.false c.node_of-node.result c.node_of-node.ensures c.only_once.result (c.only_once.ensures ∙ ap (only_once args.e) c.marked.ensures) c.if-only_once.true
+    let fine : data_fault c.args.rules.limits c.args.st c.args.e ≡ 0 = sym c.data_fault-number.ensures ∙ c.if-number-ne0.false in
+    data_twice c.args.rules c.args.e c.args.st _ _ c.requires fine c.if-st-eq0.false c.node_of-node.result c.node_of-node.ensures c.only_once.result (c.only_once.ensures ∙ ap (only_once c.args.e) c.marked.ensures) c.if-only_once.true
 
 pub mark-requires : goal.mark-requires
 mark-requires c =
-    let fine : data_fault c.args.rules.limits c.args.st c.args.e ≡ 0 = sym c.data_fault.ensures ∙ c.if2.false in
+    let fine : data_fault c.args.rules.limits c.args.st c.args.e ≡ 0 = sym c.data_fault-number.ensures ∙ c.if-number-ne0.false in
     let fit : Fitting c.args.e c.args.st.count (columns c.args.nodes.now c.args.seconds.now c.args.thirds.now) = data_fits c.args.rules c.args.e c.args.st _ _ c.requires fine in
     omega (arith, fit, c.node_of-node.ensures, c.requires.marks)
 
 pub offset_bounds-nodes-i : goal.offset_bounds-nodes-i
 offset_bounds-nodes-i c =
-    let fine : data_fault c.args.rules.limits c.args.st c.args.e ≡ 0 = sym c.data_fault.ensures ∙ c.if2.false in
+    let fine : data_fault c.args.rules.limits c.args.st c.args.e ≡ 0 = sym c.data_fault-number.ensures ∙ c.if-number-ne0.false in
     let fit : Fitting c.args.e c.args.st.count (columns c.args.nodes.now c.args.seconds.now c.args.thirds.now) = data_fits c.args.rules c.args.e c.args.st _ _ c.requires fine in
     record { fits = omega (arith, fit.few) }
 
 pub bounds-nodes-i : goal.bounds-nodes-i
 bounds-nodes-i c =
-    let fine : data_fault c.args.rules.limits c.args.st c.args.e ≡ 0 = sym c.data_fault.ensures ∙ c.if2.false in
+    let fine : data_fault c.args.rules.limits c.args.st c.args.e ≡ 0 = sym c.data_fault-number.ensures ∙ c.if-number-ne0.false in
     let fit : Fitting c.args.e c.args.st.count (columns c.args.nodes.now c.args.seconds.now c.args.thirds.now) = data_fits c.args.rules c.args.e c.args.st _ _ c.requires fine in
     fit.nodes
 
 pub second_of-requires : goal.second_of-requires
 second_of-requires c =
-    let fine : data_fault c.args.rules.limits c.args.st c.args.e ≡ 0 = sym c.data_fault.ensures ∙ c.if2.false in
+    let fine : data_fault c.args.rules.limits c.args.st c.args.e ≡ 0 = sym c.data_fault-number.ensures ∙ c.if-number-ne0.false in
     let fit : Fitting c.args.e c.args.st.count (columns c.args.nodes.now c.args.seconds.now c.args.thirds.now) = data_fits c.args.rules c.args.e c.args.st _ _ c.requires fine in
     fit.small
 
 pub offset_bounds-seconds-i : goal.offset_bounds-seconds-i
 offset_bounds-seconds-i c =
-    let fine : data_fault c.args.rules.limits c.args.st c.args.e ≡ 0 = sym c.data_fault.ensures ∙ c.if2.false in
+    let fine : data_fault c.args.rules.limits c.args.st c.args.e ≡ 0 = sym c.data_fault-number.ensures ∙ c.if-number-ne0.false in
     let fit : Fitting c.args.e c.args.st.count (columns c.args.nodes.now c.args.seconds.now c.args.thirds.now) = data_fits c.args.rules c.args.e c.args.st _ _ c.requires fine in
     record { fits = omega (arith, fit.few) }
 
 pub bounds-seconds-i : goal.bounds-seconds-i
 bounds-seconds-i c =
-    let fine : data_fault c.args.rules.limits c.args.st c.args.e ≡ 0 = sym c.data_fault.ensures ∙ c.if2.false in
+    let fine : data_fault c.args.rules.limits c.args.st c.args.e ≡ 0 = sym c.data_fault-number.ensures ∙ c.if-number-ne0.false in
     let fit : Fitting c.args.e c.args.st.count (columns c.args.nodes.now c.args.seconds.now c.args.thirds.now) = data_fits c.args.rules c.args.e c.args.st _ _ c.requires fine in
     fit.seconds
 
 pub third_of-requires : goal.third_of-requires
 third_of-requires c =
-    let fine : data_fault c.args.rules.limits c.args.st c.args.e ≡ 0 = sym c.data_fault.ensures ∙ c.if2.false in
+    let fine : data_fault c.args.rules.limits c.args.st c.args.e ≡ 0 = sym c.data_fault-number.ensures ∙ c.if-number-ne0.false in
     let fit : Fitting c.args.e c.args.st.count (columns c.args.nodes.now c.args.seconds.now c.args.thirds.now) = data_fits c.args.rules c.args.e c.args.st _ _ c.requires fine in
     fit.small
 
 pub offset_bounds-thirds-i : goal.offset_bounds-thirds-i
 offset_bounds-thirds-i c =
-    let fine : data_fault c.args.rules.limits c.args.st c.args.e ≡ 0 = sym c.data_fault.ensures ∙ c.if2.false in
+    let fine : data_fault c.args.rules.limits c.args.st c.args.e ≡ 0 = sym c.data_fault-number.ensures ∙ c.if-number-ne0.false in
     let fit : Fitting c.args.e c.args.st.count (columns c.args.nodes.now c.args.seconds.now c.args.thirds.now) = data_fits c.args.rules c.args.e c.args.st _ _ c.requires fine in
     record { fits = omega (arith, fit.few) }
 
 pub bounds-thirds-i : goal.bounds-thirds-i
 bounds-thirds-i c =
-    let fine : data_fault c.args.rules.limits c.args.st c.args.e ≡ 0 = sym c.data_fault.ensures ∙ c.if2.false in
+    let fine : data_fault c.args.rules.limits c.args.st c.args.e ≡ 0 = sym c.data_fault-number.ensures ∙ c.if-number-ne0.false in
     let fit : Fitting c.args.e c.args.st.count (columns c.args.nodes.now c.args.seconds.now c.args.thirds.now) = data_fits c.args.rules c.args.e c.args.st _ _ c.requires fine in
     fit.thirds
 
 pub overflow_add-result : goal.overflow_add-result
 overflow_add-result c =
-    let fine : data_fault c.args.rules.limits c.args.st c.args.e ≡ 0 = sym c.data_fault.ensures ∙ c.if2.false in
+    let fine : data_fault c.args.rules.limits c.args.st c.args.e ≡ 0 = sym c.data_fault-number.ensures ∙ c.if-number-ne0.false in
     let fit : Fitting c.args.e c.args.st.count (columns c.args.nodes.now c.args.seconds.now c.args.thirds.now) = data_fits c.args.rules c.args.e c.args.st _ _ c.requires fine in
     record { fits = omega (arith, fit.few) }
 
 pub returns : goal.returns
 returns c =
-    let fine : data_fault c.args.rules.limits c.args.st c.args.e ≡ 0 = sym c.data_fault.ensures ∙ c.if2.false in
-    let args = c.args in
-    data_on args.rules args.e args.st _ _ c.requires fine c.if-st-eq0.false c.node_of-node.result c.node_of-node.ensures c.only_once.result (c.only_once.ensures ∙ ap (only_once args.e) c.marked.ensures) c.if-only_once.false _ c.mark.ensures _ _ (held _ (record { sfits = c.second_of.type-inv }) ∙ c.second_of.ensures) (held _ (record { sfits = c.third_of.type-inv }) ∙ c.third_of.ensures)
+    let fine : data_fault c.args.rules.limits c.args.st c.args.e ≡ 0 = sym c.data_fault-number.ensures ∙ c.if-number-ne0.false in
+    data_on c.args.rules c.args.e c.args.st _ _ c.requires fine c.if-st-eq0.false c.node_of-node.result c.node_of-node.ensures c.only_once.result (c.only_once.ensures ∙ ap (only_once c.args.e) c.marked.ensures) c.if-only_once.false _ c.mark.ensures _ _ (held _ (record { sfits = c.second_of.type_inv }) ∙ c.second_of.ensures) (held _ (record { sfits = c.third_of.type_inv }) ∙ c.third_of.ensures)

@@ -12,19 +12,18 @@ loop-st-init c = judged_start _ _ _
 
 pub returns-then-number-ne0 : goal.returns-then-number-ne0
 returns-then-number-ne0 c =
-    let left : Columns = let last = c.next_line-step.new in columns last.1.1.1.1.0 last.1.1.1.1.1.0 last.1.1.1.1.1.1.0 in
-    rw (judged_stop c.args.rules c.args.text.now _ _ _ c.loop-st.st c.loop-st.place c.loop-st.invariant c.loop-st-test.true c.next_line-step.result _ left c.next_line-step.ensures c.if-number-ne0.true) (tt, refl)
+    let left : Columns = columns c.next_line-step.new.nodes c.next_line-step.new.seconds c.next_line-step.new.thirds in
+    rw (judged_stop c.args.rules c.args.text.now _ _ _ c.loop-st.st c.loop-st.place c.loop-st.invariant c.loop-st-test.true c.next_line-step.result _ left c.next_line-step.ensures c.if-number-ne0.true) (record { rows_read = tt; value = refl })
 
 pub loop-st-smaller : goal.loop-st-smaller
 loop-st-smaller c =
-    let left : Columns = let last = c.next_line-step.new in columns last.1.1.1.1.0 last.1.1.1.1.1.0 last.1.1.1.1.1.1.0 in
+    let left : Columns = columns c.next_line-step.new.nodes c.next_line-step.new.seconds c.next_line-step.new.thirds in
     omega (arith, judged_up c.args.rules c.args.text.now _ _ _ c.loop-st.st c.loop-st.place c.loop-st.invariant c.loop-st-test.true c.next_line-step.result _ left c.next_line-step.ensures c.if-number-ne0.false, c.loop-st-test.true)
 
 pub loop-st-preserved : goal.loop-st-preserved
 loop-st-preserved c =
-    let lent : Columns = let args = c.args in columns args.nodes.now args.seconds.now args.thirds.now in
-    let left : Columns = let last = c.next_line-step.new in columns last.1.1.1.1.0 last.1.1.1.1.1.0 last.1.1.1.1.1.1.0 in
-    let lengths : SameLengths lent left = let kept = c.next_line-step.auto in
-    let lengths = c.loop-st.invariant.lengths in
-    record { nodes = kept.1.1.1.1.0 ∙ lengths.nodes; seconds = kept.1.1.1.1.1.0 ∙ lengths.seconds; thirds = kept.1.1.1.1.1.1.0 ∙ lengths.thirds } in
+    let lent : Columns = columns c.args.nodes.now c.args.seconds.now c.args.thirds.now in
+    let left : Columns = columns c.next_line-step.new.nodes c.next_line-step.new.seconds c.next_line-step.new.thirds in
+    let lengths : SameLengths lent left = let lengths = c.loop-st.invariant.lengths in
+    record { nodes = c.next_line-step.auto.nodes ∙ lengths.nodes; seconds = c.next_line-step.auto.seconds ∙ lengths.seconds; thirds = c.next_line-step.auto.thirds ∙ lengths.thirds } in
     judged_on c.args.rules c.args.text.now _ _ _ c.loop-st.st c.loop-st.place c.loop-st.invariant c.loop-st-test.true c.next_line-step.result _ left c.next_line-step.ensures c.if-number-ne0.false (c.next_line-step.auto.seen ∙ c.loop-st.invariant.size) lengths

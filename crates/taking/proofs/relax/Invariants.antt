@@ -1,0 +1,14 @@
+use borrow.Author.Rules.{rules}
+use native.Mathlib.Omega.{arith}
+use Prim.Native.Nat.{◌-◌}
+use Rattle.meaning.specs.Region.{Tables, tables}
+use Rattle.memory.proofs.Aims.{aims_same}
+use Rattle.taking.proofs.Following.{Following, Ahead, ahead, left, follow_none, follow_one, follow_less, follow_all}
+use Rattle.taking.proofs.relax.Given as goal
+
+-- The loop's invariant: the arcs before some arc have been followed, or are other nodes', and `next` is found from there on.
+abbrev pub invariant-loop-next : goal.invariant-loop-next
+invariant-loop-next l = Following (tables l.tails l.heads l.weights l.xs l.ys l.sites l.n l.m l.s) l.u l.initial.work l.initial.tree l.work l.tree l.next
+
+abbrev pub decreases-loop-next : goal.decreases-loop-next
+decreases-loop-next l = left l.m l.next
