@@ -1,8 +1,7 @@
 -- The checks in the paper's order: the first that fails gives the verdict.
 use mathlib.Core.Path.{◌≡◌, sym, ap, ◌∙◌}
-use mathlib.Core.Bool.{Bool, true, false, not}
+use mathlib.Core.Bool.{Bool, true, false}
 use Prim.Native.Nat.{ℕ, ◌≤◌}
-use borrow.Author.Tests.{not-true, not-false}
 use Rattle.meaning.specs.Limits.{base}
 use Rattle.meaning.specs.Files.{within}
 use Rattle.meaning.specs.Region.{Tables, Rooms}
@@ -39,11 +38,11 @@ module _ (t : Tables) {L : Limits} {x : Verdict} (h : L ≡ base) (ex : x ≡ fi
 
 -- ---- the whole: each test as the code has it, and as it came out
 
-came : {r b : Bool} → r ≡ b → not r ≡ false → b ≡ true
-came {r} e n = sym e ∙ not-false r n
+came : {r b : Bool} → r ≡ b → r ≡ true → b ≡ true
+came e n = sym e ∙ n
 
-went : {r b : Bool} → r ≡ b → not r ≡ true → b ≡ false
-went {r} e n = sym e ∙ not-true r n
+went : {r b : Bool} → r ≡ b → r ≡ false → b ≡ false
+went e n = sym e ∙ n
 
 -- at limits that are the base's
 counts_are : (t : Tables) {L : Limits} {a : Bool} → L ≡ base → a ≡ counts_fit L t → a ≡ counts_fit base t
@@ -52,39 +51,39 @@ counts_are t h e = e ∙ ap (λ (l : Limits). counts_fit l t) h
 k_is : (k : ℕ) {L : Limits} {a : Bool} → L ≡ base → a ≡ within 1 k L.k → a ≡ within 1 k base.k
 k_is k h e = e ∙ ap (λ (l : Limits). within 1 k l.k) h
 
-pub sizes : (n m s k : ℕ) {L : Limits} {a d : Bool} → L ≡ base → a ≡ counts_fit L (counted n m s) → not a ≡ false → d ≡ within 1 k L.k → not d ≡ false → (n ≤ 1024) × (k ≤ 32)
+pub sizes : (n m s k : ℕ) {L : Limits} {a d : Bool} → L ≡ base → a ≡ counts_fit L (counted n m s) → a ≡ true → d ≡ within 1 k L.k → d ≡ true → (n ≤ 1024) × (k ≤ 32)
 sizes n m s k h ea na ed nd =
     let counts = came (counts_are (counted n m s) h ea) na in
     ((within_is 1 n 1024 (both (within 1 n 1024) _ counts).0).1, (within_is 1 k 32 (came (k_is k h ed) nd)).1)
 
 module _ (t : Tables) (q k : ℕ) (r : Rooms) {L : Limits} {a : Bool} (h : L ≡ base) (ea : a ≡ counts_fit L t) where
-  pub no_counts : not a ≡ true → Faulty 4 0 ≡ inspect base t q k r
+  pub no_counts : a ≡ false → Faulty 4 0 ≡ inspect base t q k r
   unfolding inspect
   no_counts n = rw (went (counts_are t h ea) n)
 
-  module _ (na : not a ≡ false) {b : Bool} (eb : b ≡ tables_fit t) where
+  module _ (na : a ≡ true) {b : Bool} (eb : b ≡ tables_fit t) where
     counts : counts_fit base t ≡ true
     counts = came (counts_are t h ea) na
 
-    pub no_tables : not b ≡ true → Faulty 9 0 ≡ inspect base t q k r
+    pub no_tables : b ≡ false → Faulty 9 0 ≡ inspect base t q k r
     unfolding inspect
     no_tables n = rw (counts, went eb n)
 
-    module _ (nb : not b ≡ false) {c : Bool} (ec : c ≡ within 1 q t.n) where
-      pub no_query : not c ≡ true → Faulty 11 0 ≡ inspect base t q k r
+    module _ (nb : b ≡ true) {c : Bool} (ec : c ≡ within 1 q t.n) where
+      pub no_query : c ≡ false → Faulty 11 0 ≡ inspect base t q k r
       unfolding inspect
       no_query n = rw (counts, came eb nb, went ec n)
 
-      module _ (nc : not c ≡ false) {d : Bool} (ed : d ≡ within 1 k L.k) where
-        pub no_k : not d ≡ true → Faulty 12 0 ≡ inspect base t q k r
+      module _ (nc : c ≡ true) {d : Bool} (ed : d ≡ within 1 k L.k) where
+        pub no_k : d ≡ false → Faulty 12 0 ≡ inspect base t q k r
         unfolding inspect
         no_k n = rw (counts, came eb nb, came ec nc, went (k_is k h ed) n)
 
-        module _ (nd : not d ≡ false) {e : Bool} (ee : e ≡ rooms_fit t.n k r) where
-          pub no_rooms : not e ≡ true → Faulty 13 0 ≡ inspect base t q k r
+        module _ (nd : d ≡ true) {e : Bool} (ee : e ≡ rooms_fit t.n k r) where
+          pub no_rooms : e ≡ false → Faulty 13 0 ≡ inspect base t q k r
           unfolding inspect
           no_rooms n = rw (counts, came eb nb, came ec nc, came (k_is k h ed) nd, went ee n)
 
-          pub to_entries : {v : Verdict} → not e ≡ false → v ≡ of_entries base t → v ≡ inspect base t q k r
+          pub to_entries : {v : Verdict} → e ≡ true → v ≡ of_entries base t → v ≡ inspect base t q k r
           unfolding inspect of_entries
           to_entries ne ev = rw (counts, came eb nb, came ec nc, came (k_is k h ed) nd, came ee ne) ev

@@ -33,7 +33,7 @@ module _ {A : Type 0} {place : ℕ → ℕ} {value : ℕ → A} {xs₀ xs : List
 -- a row's number as the code holds it, an i32
 module _ (z : ℤ) (h : mag z < 2 ^ 31) where
   pub held : to_z w32 (of_z w32 z) ≡ z
-  held = to_z-of_z record { sfits = h }
+  held = to_z-of_z {w = w32} record { sfits = h }
 
   pub held_below : (n : ℕ) → Below n z → Below n (to_z w32 (of_z w32 z))
   held_below n b = rw held b

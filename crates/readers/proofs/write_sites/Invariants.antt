@@ -1,0 +1,13 @@
+use borrow.Author.Rules.{rules}
+use native.Mathlib.Omega.{arith}
+use Prim.Native.Nat.{◌-◌, ◌≤◌}
+use mathlib.Core.Path.{refl}
+use Rattle.readers.specs.Writing.{in_order, node_in}
+use Rattle.readers.proofs.Rows.{Stored, stored_more, stored_all}
+use Rattle.readers.proofs.write_sites.Given as goal
+
+abbrev pub invariant-loop-i : goal.invariant-loop-i
+invariant-loop-i l = (l.i ≤ l.rows) × Stored in_order (node_in l.nodes) l.initial.sites l.sites l.i
+
+abbrev pub decreases-loop-i : goal.decreases-loop-i
+decreases-loop-i l = l.rows - l.i

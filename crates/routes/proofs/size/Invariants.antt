@@ -1,0 +1,11 @@
+use Rattle.routes.proofs.Ways.{Walked, walked_start, walked_more, walked_size, walked_on}
+use native.Mathlib.Omega.{arith}
+use Prim.Native.Nat.{ℕ, ◌-◌}
+use mathlib.Core.List.{List, []}
+use Rattle.routes.proofs.size.Given as goal
+
+abbrev pub invariant-loop-count : goal.invariant-loop-count
+invariant-loop-count l = (way : List ℕ) × Walked l.n l.work l.v l.here l.count way
+
+abbrev pub decreases-loop-count : goal.decreases-loop-count
+decreases-loop-count l = l.n - l.count

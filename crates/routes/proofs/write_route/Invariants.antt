@@ -1,0 +1,12 @@
+use Rattle.routes.proofs.Route.{Filled, filled_start, filled_size, filled_high, filled_most, filled_fits, filled_less, filled_goes, filled_on, filled_end}
+use native.Mathlib.Omega.{arith}
+use Prim.Native.Nat.{◌+◌, ◌-◌}
+use mathlib.Core.Path.{ap}
+use lib.ListN.{length-set}
+use Rattle.routes.proofs.write_route.Given as goal
+
+abbrev pub invariant-loop-done : goal.invariant-loop-done
+invariant-loop-done l = Filled l.n l.work l.initial.routes l.v l.at l.count l.routes l.here l.done
+
+abbrev pub decreases-loop-done : goal.decreases-loop-done
+decreases-loop-done l = l.count - l.done

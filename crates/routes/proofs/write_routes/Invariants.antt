@@ -1,0 +1,11 @@
+use Rattle.routes.proofs.Lines.{Lined, linked, lined_start, lined_room, lined_small, lined_on, ends_written, routes_written}
+use native.Mathlib.Omega.{arith}
+use Prim.Native.Nat.{◌-◌, ◌<◌}
+use lib.ListN.{get_or}
+use Rattle.routes.proofs.write_routes.Given as goal
+
+abbrev pub invariant-loop-i : goal.invariant-loop-i
+invariant-loop-i l = Lined l.n l.work l.listed l.count l.initial.ends l.initial.routes l.ends l.routes l.at l.i
+
+abbrev pub decreases-loop-i : goal.decreases-loop-i
+decreases-loop-i l = l.count - l.i
