@@ -17,7 +17,7 @@ use Rattle.meaning.specs.Route.{Gives}
 use Rattle.meaning.specs.Lists.{All}
 use Rattle.meaning.specs.Listing.{Stop, Right, Listing}
 use Rattle.meaning.specs.Search.{aim_of, back_to_back}
-use Rattle.meaning.proofs.Counting.{count, count_le}
+use Rattle.meaning.proofs.Counting.{count_le}
 use Rattle.meaning.proofs.Exits.{one, join, shortest_unique, shortest_front}
 use Rattle.meaning.proofs.Relaxing.{Estimate, Setting}
 use Rattle.meaning.proofs.States.{Has}

@@ -1,7 +1,7 @@
 -- A run of the taking rule over tables that passed the checks.
 use Rattle.std.specs.Prelude.{Bool, cond, List, map, ◌≡◌, ℕ, suc, ◌-◌, ◌*◌, length, set, drop}
 use Rattle.meaning.specs.Limits.{base}
-use Rattle.meaning.specs.Region.{Tables, Rooms, Region, region_of}
+use Rattle.meaning.specs.Region.{Tables, Rooms, region_of}
 use Rattle.meaning.specs.Checks.{inspect}
 use Rattle.meaning.specs.Taking.{State, len_at, sites_of, after}
 use Rattle.meaning.specs.Search.{over, aim_of}

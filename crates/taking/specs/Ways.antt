@@ -1,5 +1,5 @@
 -- What the checks have shown of the arcs, how a node's arcs are linked, and how far the lengths in the memory can be.
-use Rattle.std.specs.Prelude.{Bool, cond, List, ◌≡◌, ℕ, zero, suc, ◌-◌, ◌≤◌, ◌<◌, eqb, length, get_or}
+use Rattle.std.specs.Prelude.{cond, List, ◌≡◌, ℕ, zero, suc, ◌-◌, ◌≤◌, ◌<◌, eqb, length, get_or}
 
 -- the first m arcs join nodes, and their weights are in range
 pub record Arcs (tails heads weights : List ℕ) (n m : ℕ) : Type 0 where

@@ -1,10 +1,4 @@
-use borrow.Author.Rules.{rules}
-use Prim.Native.Nat.{◌-◌}
-use native.Mathlib.Nat.{lt_of_le_of_lt}
-use native.Mathlib.Omega.{arith}
-use lib.Dec.{lit<}
-use Rattle.meaning.proofs.Roots.{sq_le}
-use Rattle.inspect.proofs.Single.{arc_first, arc_passed, arc_short_lem, arc_long}
+use Rattle.inspect.proofs.Single.{arc_first, arc_short_lem, arc_long}
 use Rattle.inspect.proofs.arc_fault.Goals as goal
 
 pub returns-then-fault-ne0 : goal.returns-then-fault-ne0

@@ -1,11 +1,6 @@
-use borrow.Author.Rules.{rules}
-use borrow.Author.Tests.{not-false}
 use native.Mathlib.Omega.{arith}
-use Prim.Native.Nat.{◌-◌, ◌≤◌}
-use mathlib.Core.Path.{refl, sym}
-use Rattle.meaning.proofs.Tests.{not_both}
-use Rattle.inspect.proofs.Marked.{Stood, stood_none, stood_more}
-use Rattle.inspect.proofs.Faults.{first_none}
+use mathlib.Core.Path.{refl}
+use Rattle.inspect.proofs.Marked.{stood_none, stood_more}
 use Rattle.inspect.proofs.distinct.Goals as goal
 
 pub loop-j-init : goal.loop-j-init

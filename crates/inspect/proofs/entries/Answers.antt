@@ -1,7 +1,4 @@
-use borrow.Author.Rules.{rules}
 use mathlib.Core.Path.{sym, ◌∙◌}
-use Prim.Native.Nat.{◌≤◌}
-use lib.ListN.{length}
 use Rattle.meaning.specs.Region.{tables}
 use Rattle.inspect.proofs.Laws.{tables_long, points_placed}
 use Rattle.inspect.proofs.Order.{points_are, at_point, at_arc, at_site}

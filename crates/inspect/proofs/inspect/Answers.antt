@@ -1,8 +1,4 @@
-use borrow.Author.Rules.{rules}
-use borrow.Author.Tests.{not-false}
-use mathlib.Core.Path.{sym, ◌∙◌}
-use Prim.Native.Nat.{◌≤◌}
-use Rattle.inspect.proofs.Order.{sizes, no_counts, no_tables, no_query, no_k, no_rooms, to_entries}
+use Rattle.inspect.proofs.Order.{no_counts, no_tables, no_query, no_k, no_rooms, to_entries}
 use Rattle.inspect.proofs.inspect.Goals as goal
 
 pub returns-then-not-counts_fit : goal.returns-then-not-counts_fit

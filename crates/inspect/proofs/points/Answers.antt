@@ -1,11 +1,7 @@
-use borrow.Author.Rules.{rules}
-use mathlib.Core.Path.{◌≡◌, refl}
-use Prim.Native.Nat.{◌-◌, ◌≤◌}
+use mathlib.Core.Path.{refl}
 use native.Mathlib.Omega.{arith}
-use Rattle.meaning.specs.Checks.{first_fault, point_fault}
-use Rattle.meaning.specs.declared.Verdict.TheVariants.{Fine}
-use Rattle.inspect.specs.Columns.{points_of}
-use Rattle.inspect.proofs.Faults.{first_more, first_at, first_none}
+use Rattle.meaning.specs.Checks.{first_fault}
+use Rattle.inspect.proofs.Faults.{first_more, first_at}
 use Rattle.inspect.proofs.Single.{point_is}
 use Rattle.inspect.proofs.points.Goals as goal
 
@@ -19,9 +15,8 @@ returns-then-number-ne0 c =
     (point_is _ _ _ _ _ (record { sfits = c.point_fault-arg-1.given }) (record { sfits = c.point_fault-arg-in-loop-v-1.given }) c.point_fault-number.ensures) c.if-number-ne0.true
 
 pub loop-v-preserved : goal.loop-v-preserved
-loop-v-preserved c =
-    (
-      omega arith,
-      first_more _ _ _ c.loop-v.invariant.1
-          (point_is _ _ _ _ _ (record { sfits = c.point_fault-arg-1.given }) (record { sfits = c.point_fault-arg-in-loop-v-1.given }) c.point_fault-number.ensures) c.if-number-ne0.false,
-    )
+loop-v-preserved c = (
+  omega arith,
+  first_more _ _ _ c.loop-v.invariant.1
+      (point_is _ _ _ _ _ (record { sfits = c.point_fault-arg-1.given }) (record { sfits = c.point_fault-arg-in-loop-v-1.given }) c.point_fault-number.ensures) c.if-number-ne0.false,
+)

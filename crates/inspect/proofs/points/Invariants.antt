@@ -1,12 +1,8 @@
-use borrow.Author.Rules.{rules}
-use mathlib.Core.Path.{◌≡◌, refl}
+use mathlib.Core.Path.{◌≡◌}
 use Prim.Native.Nat.{◌-◌, ◌≤◌}
-use native.Mathlib.Omega.{arith}
 use Rattle.meaning.specs.Checks.{first_fault, point_fault}
 use Rattle.meaning.specs.declared.Verdict.TheVariants.{Fine}
 use Rattle.inspect.specs.Columns.{points_of}
-use Rattle.inspect.proofs.Faults.{first_more, first_at, first_none}
-use Rattle.inspect.proofs.Single.{point_is}
 use Rattle.inspect.proofs.points.Given as goal
 
 abbrev pub invariant-loop-v : goal.invariant-loop-v

@@ -1,15 +1,11 @@
-use borrow.Author.Rules.{rules}
-use borrow.Author.Tests.{not-true, not-false}
-use mathlib.Core.Path.{◌≡◌, refl, sym, ◌∙◌}
+use mathlib.Core.Path.{◌≡◌}
 use mathlib.Core.Bool.{false}
 use Prim.Native.Nat.{◌-◌, ◌≤◌}
-use native.Mathlib.Omega.{arith}
 use Rattle.meaning.specs.Limits.{base}
 use Rattle.meaning.specs.Checks.{first_fault, site_fault}
 use Rattle.meaning.specs.declared.Verdict.TheVariants.{Fine}
 use Rattle.inspect.specs.Columns.{sites_of}
-use Rattle.inspect.proofs.Faults.{first_more, first_at, first_none}
-use Rattle.inspect.proofs.Single.{among, among_none, among_more, among_hit, site_outside, site_twice, site_fine}
+use Rattle.inspect.proofs.Single.{among}
 use Rattle.inspect.proofs.stands.Given as goal
 
 abbrev pub invariant-loop-i : goal.invariant-loop-i

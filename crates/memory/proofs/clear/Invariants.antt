@@ -1,8 +1,5 @@
 use Prim.Native.Nat.{◌-◌, ◌≤◌}
-use native.Mathlib.Omega.{arith}
-use borrow.Author.Rules.{rules}
-use lib.ListN.{length-set}
-use Rattle.memory.proofs.Cleared.{Cleared, cleared_more, cleared_all}
+use Rattle.memory.proofs.Cleared.{Cleared}
 use Rattle.memory.proofs.clear.Given as goal
 
 abbrev pub invariant-loop-v : goal.invariant-loop-v

@@ -1,6 +1,5 @@
-use borrow.Author.Rules.{rules}
 use Rattle.reading.specs.Rows.{columns}
-use Rattle.readers.proofs.Outcomes.{points_kept, points_fit, points_written}
+use Rattle.readers.proofs.Outcomes.{points_fit, points_written}
 use Rattle.readers.proofs.read_coordinates.Goals as goal
 
 pub write_points-requires : goal.write_points-requires

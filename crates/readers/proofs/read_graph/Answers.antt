@@ -1,9 +1,8 @@
 use Prim.Native.Nat.{min}
 use mathlib.Core.Path.{ap, ◌∙◌}
 use lib.ListN.{length}
-use borrow.Author.Rules.{rules}
 use Rattle.reading.specs.Rows.{columns}
-use Rattle.readers.proofs.Outcomes.{graph_kept, arcs_fit, graph_written}
+use Rattle.readers.proofs.Outcomes.{arcs_fit, graph_written}
 use Rattle.readers.proofs.read_graph.Goals as goal
 
 pub write_arcs-requires : goal.write_arcs-requires

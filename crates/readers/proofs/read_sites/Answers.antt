@@ -1,5 +1,4 @@
-use borrow.Author.Rules.{rules}
-use Rattle.readers.proofs.Outcomes.{sites_kept, sites_fit, sites_written}
+use Rattle.readers.proofs.Outcomes.{sites_fit, sites_written}
 use Rattle.reading.specs.Rows.{columns}
 use Rattle.readers.proofs.read_sites.Goals as goal
 

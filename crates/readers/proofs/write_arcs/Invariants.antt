@@ -1,10 +1,6 @@
-use borrow.Author.Rules.{rules}
-use native.Mathlib.Omega.{arith}
 use Prim.Native.Nat.{◌-◌, ◌≤◌}
-use mathlib.Core.Path.{refl, ap}
-use lib.IntN.{nat_abs}
-use Rattle.readers.specs.Writing.{in_order, node_in, value_in, size_in}
-use Rattle.readers.proofs.Rows.{Stored, stored_more, stored_all, held, held_below}
+use Rattle.readers.specs.Writing.{in_order, node_in, size_in}
+use Rattle.readers.proofs.Rows.{Stored}
 use Rattle.readers.proofs.write_arcs.Given as goal
 
 abbrev pub invariant-loop-i : goal.invariant-loop-i

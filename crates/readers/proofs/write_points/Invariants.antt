@@ -1,9 +1,6 @@
-use borrow.Author.Rules.{rules}
-use native.Mathlib.Omega.{arith}
 use Prim.Native.Nat.{◌-◌, ◌≤◌}
-use mathlib.Core.Path.{refl}
 use Rattle.readers.specs.Writing.{at_node, value_in}
-use Rattle.readers.proofs.Rows.{Stored, stored_more, stored_all, held}
+use Rattle.readers.proofs.Rows.{Stored}
 use Rattle.readers.proofs.write_points.Given as goal
 
 abbrev pub invariant-loop-i : goal.invariant-loop-i

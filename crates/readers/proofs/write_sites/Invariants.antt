@@ -1,9 +1,6 @@
-use borrow.Author.Rules.{rules}
-use native.Mathlib.Omega.{arith}
 use Prim.Native.Nat.{◌-◌, ◌≤◌}
-use mathlib.Core.Path.{refl}
 use Rattle.readers.specs.Writing.{in_order, node_in}
-use Rattle.readers.proofs.Rows.{Stored, stored_more, stored_all}
+use Rattle.readers.proofs.Rows.{Stored}
 use Rattle.readers.proofs.write_sites.Given as goal
 
 abbrev pub invariant-loop-i : goal.invariant-loop-i

@@ -1,8 +1,7 @@
 use Rattle.reading.specs.Follows.{only_once, data_fault}
 use Rattle.reading.specs.Rows.{columns}
 use Rattle.reading.proofs.Sizes.{held}
-use Rattle.reading.proofs.Steps.{Fitting, data_early, data_fault_lem, data_fits, data_twice, data_on}
-use borrow.Author.Rules.{rules}
+use Rattle.reading.proofs.Steps.{Fitting, data_fault_lem, data_fits, data_twice, data_on}
 use native.Mathlib.Omega.{arith}
 use mathlib.Core.Path.{◌≡◌, ap, sym, ◌∙◌}
 use Rattle.reading.proofs.added.Goals as goal

@@ -1,6 +1,3 @@
-use native.Mathlib.Omega.{arith}
-use mathlib.Core.Path.{refl}
-use borrow.Author.Rules.{rules}
 use Rattle.reading.proofs.advanced.Goals as goal
 
 pub returns-in-Problem : goal.returns-in-Problem

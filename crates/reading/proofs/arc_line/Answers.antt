@@ -1,6 +1,5 @@
 use Rattle.meaning.specs.declared.Kind.TheVariants.{Graph}
-use Rattle.reading.proofs.Lines.{moved_ready, plain_answers}
-use borrow.Author.Rules.{rules}
+use Rattle.reading.proofs.Lines.{plain_answers}
 use Rattle.reading.proofs.arc_line.Goals as goal
 
 pub returns : goal.returns

@@ -1,10 +1,7 @@
 use Rattle.reading.specs.Rows.{Columns, columns}
-use Rattle.reading.proofs.Lines.{SameLengths, Judged, judged_start, judged_ready, judged_stop, judged_up, judged_on, judged_end, judged_rows}
-use borrow.Author.Rules.{rules}
+use Rattle.reading.proofs.Lines.{SameLengths, judged_start, judged_stop, judged_up, judged_on}
 use native.Mathlib.Omega.{arith}
-use Prim.Native.Nat.{◌+◌, ◌-◌}
-use mathlib.Core.Path.{refl, sym, ◌∙◌}
-use lib.ListN.{length}
+use mathlib.Core.Path.{refl, ◌∙◌}
 use Rattle.reading.proofs.judge.Goals as goal
 
 pub loop-st-init : goal.loop-st-init

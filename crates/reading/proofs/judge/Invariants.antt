@@ -1,9 +1,6 @@
-use Rattle.reading.specs.Rows.{Columns, columns}
-use Rattle.reading.proofs.Lines.{SameLengths, Judged, judged_start, judged_ready, judged_stop, judged_up, judged_on, judged_end, judged_rows}
-use borrow.Author.Rules.{rules}
-use native.Mathlib.Omega.{arith}
+use Rattle.reading.specs.Rows.{columns}
+use Rattle.reading.proofs.Lines.{Judged}
 use Prim.Native.Nat.{◌+◌, ◌-◌}
-use mathlib.Core.Path.{refl, sym, ◌∙◌}
 use lib.ListN.{length}
 use Rattle.reading.proofs.judge.Given as goal
 

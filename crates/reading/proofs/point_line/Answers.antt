@@ -1,8 +1,7 @@
 use Rattle.meaning.specs.declared.Entry.TheVariants.{Point}
 use Rattle.reading.proofs.Sizes.{held_point}
 use Rattle.meaning.specs.declared.Kind.TheVariants.{Coordinates}
-use Rattle.reading.proofs.Lines.{moved_ready, plain_answers}
-use borrow.Author.Rules.{rules}
+use Rattle.reading.proofs.Lines.{plain_answers}
 use Rattle.reading.proofs.point_line.Goals as goal
 
 pub returns : goal.returns

@@ -1,9 +1,5 @@
-use Rattle.reading.proofs.Lines.{found, nothing_found, said_line}
-use borrow.Author.Tests.{le-ltb}
-use native.Mathlib.Omega.{arith}
+use Rattle.reading.proofs.Lines.{found, said_line}
 use mathlib.Core.Path.{sym, ◌∙◌}
-use lib.ListN.{length}
-use borrow.Author.Rules.{rules}
 use Rattle.reading.proofs.said_at.Goals as goal
 
 pub slice_bounds-trimmed-end : goal.slice_bounds-trimmed-end

@@ -1,7 +1,6 @@
-use Rattle.routes.proofs.Ways.{Walked, walked_start, walked_more, walked_size, walked_on}
+use Rattle.routes.proofs.Ways.{walked_start, walked_more, walked_size, walked_on}
 use native.Mathlib.Omega.{arith}
-use Prim.Native.Nat.{ℕ, ◌-◌}
-use mathlib.Core.List.{List, []}
+use mathlib.Core.List.{[]}
 use Rattle.routes.proofs.size.Goals as goal
 
 pub loop-count-init : goal.loop-count-init

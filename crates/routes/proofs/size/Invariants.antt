@@ -1,7 +1,6 @@
-use Rattle.routes.proofs.Ways.{Walked, walked_start, walked_more, walked_size, walked_on}
-use native.Mathlib.Omega.{arith}
+use Rattle.routes.proofs.Ways.{Walked}
 use Prim.Native.Nat.{ℕ, ◌-◌}
-use mathlib.Core.List.{List, []}
+use mathlib.Core.List.{List}
 use Rattle.routes.proofs.size.Given as goal
 
 abbrev pub invariant-loop-count : goal.invariant-loop-count

@@ -1,8 +1,5 @@
-use Rattle.routes.proofs.Route.{Filled, filled_start, filled_size, filled_high, filled_most, filled_fits, filled_less, filled_goes, filled_on, filled_end}
-use native.Mathlib.Omega.{arith}
-use Prim.Native.Nat.{◌+◌, ◌-◌}
-use mathlib.Core.Path.{ap}
-use lib.ListN.{length-set}
+use Rattle.routes.proofs.Route.{Filled}
+use Prim.Native.Nat.{◌-◌}
 use Rattle.routes.proofs.write_route.Given as goal
 
 abbrev pub invariant-loop-done : goal.invariant-loop-done

@@ -1,7 +1,5 @@
-use Rattle.routes.proofs.Lines.{Lined, linked, lined_start, lined_room, lined_small, lined_on, ends_written, routes_written}
+use Rattle.routes.proofs.Lines.{lined_small, lined_on, ends_written, routes_written}
 use native.Mathlib.Omega.{arith}
-use Prim.Native.Nat.{◌-◌, ◌<◌}
-use lib.ListN.{get_or}
 use Rattle.routes.proofs.write_routes.Goals as goal
 
 pub overflow_cast-ends : goal.overflow_cast-ends

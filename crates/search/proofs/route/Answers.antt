@@ -1,7 +1,4 @@
 use Rattle.meaning.specs.Search.{between, stretch}
-use borrow.Author.Rules.{rules}
-use mir.Facts.{Fits-widen}
-use mir.Syntax.{w16}
 use borrow.Author.Tests.{le-leb, lt-leb}
 use Prim.Native.Nat.{ℕ, ◌-◌}
 use mathlib.Core.Path.{ap, ◌∙◌}

@@ -1,4 +1,3 @@
-use mathlib.Core.Path.{refl, sym}
 use Rattle.search.proofs.Checked.{few_sites, tailed, bare}
 use Rattle.search.proofs.run.Goals as goal
 

@@ -1,5 +1,4 @@
-use Rattle.search.proofs.Outcome.{refused, may_run, may_write, found}
-use borrow.Author.Rules.{rules}
+use Rattle.search.proofs.Outcome.{may_run, may_write, found}
 use Rattle.search.proofs.search.Goals as goal
 
 pub run-tally-requires-clause-n_in_bounds : goal.run-tally-requires-clause-n_in_bounds

@@ -1,13 +1,11 @@
-use borrow.Author.Rules.{rules}
-use mathlib.Core.Path.{◌≡◌, refl, sym, ◌∙◌}
-use Prim.Native.Nat.{◌-◌, ◌<◌}
+use mathlib.Core.Path.{refl, ◌∙◌}
+use Prim.Native.Nat.{◌<◌}
 use native.Mathlib.Numerals.{add-one}
 use native.Mathlib.Omega.{arith}
 use lib.ListN.{length}
-use Rattle.meaning.specs.Region.{tables}
 use Rattle.memory.proofs.Aims.{aims_same}
 use Rattle.search.proofs.Checked.{query_low, query_below, few, ground, arcs}
-use Rattle.search.proofs.Runs.{Going, bounds, begun, as_lent, all_steps, aiming, renewed, picked_node, picked_none, first_of, open_site, advanced, stops_filled, stops_done, stops_closed}
+use Rattle.search.proofs.Runs.{bounds, begun, as_lent, aiming, renewed, picked_node, picked_none, first_of, open_site, advanced, stops_filled, stops_done, stops_closed}
 use Rattle.search.proofs.steps.Goals as goal
 
 pub overflow_sub-query : goal.overflow_sub-query

@@ -1,4 +1,4 @@
-use Rattle.straight.proofs.Gaps.{wide_fits, diff_fits, square_fits, product_up, product_abs}
+use Rattle.straight.proofs.Gaps.{product_up, product_abs}
 use Rattle.straight.proofs.apart.Goals as goal
 
 pub overflow_cast-result : goal.overflow_cast-result

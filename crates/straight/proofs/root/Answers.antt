@@ -1,10 +1,6 @@
-use mathlib.Core.Path.{◌≡◌, refl, sym, ap}
-use Prim.Native.Nat.{◌/◌}
-use native.Mathlib.Omega.{arith}
-use lib.Count.{count_leading_zeros, leading_le}
-use mir.Facts.{Fits-lit, Fits-sub, Fits-div}
+use mathlib.Core.Path.{refl, sym, ap}
 use Rattle.meaning.specs.Straight.{root, root_to}
-use Rattle.straight.proofs.Newton.{Guess, shift_small, begin_fits, positive, next_fits, last_is}
+use Rattle.straight.proofs.Newton.{begin_fits, next_fits, last_is}
 use Rattle.straight.proofs.root.Goals as goal
 
 pub returns-then-x-eq0 : goal.returns-then-x-eq0

@@ -1,8 +1,5 @@
-use borrow.Author.Rules.{rules}
 use native.Mathlib.Omega.{arith}
-use Rattle.straight.specs.Points.{entry}
 use Rattle.straight.proofs.Gaps.{sum_is}
-use Rattle.straight.proofs.Laws.{small_back}
 use Rattle.straight.proofs.squares.Goals as goal
 
 pub overflow_add-result : goal.overflow_add-result

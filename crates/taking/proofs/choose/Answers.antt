@@ -1,14 +1,10 @@
-use borrow.Author.Rules.{rules}
-use borrow.Author.Tests.{not-true}
 use mathlib.Core.Path.{sym, ◌∙◌}
 use Rattle.meaning.specs.Region.{Tables}
-use Rattle.meaning.proofs.Counting.{count}
 use Rattle.meaning.proofs.Scans.{First}
 use Rattle.memory.specs.Memory.{key_at}
 use Rattle.memory.specs.Tree.{open_at}
-use Rattle.memory.proofs.Aims.{aims_same}
 use Rattle.taking.specs.Steps.{places}
-use Rattle.taking.proofs.Choosing.{top_is, open_not_taken, stale, chosen_none, chosen_node, chosen_exact, raised, raised_taken, fewer, Keeping, keep_none, held}
+use Rattle.taking.proofs.Choosing.{top_is, open_not_taken, chosen_none, chosen_node, chosen_exact, raised, raised_taken, fewer, held}
 use Rattle.taking.proofs.choose.Goals as goal
 
 pub returns-in_default-clause-chosen : goal.returns-in_default-clause-chosen

@@ -1,6 +1,4 @@
-use borrow.Author.Rules.{rules}
-use lib.ListN.{length-set}
-use Rattle.taking.proofs.Closing.{rival_tree, rival_apart, closed, shut}
+use Rattle.taking.proofs.Closing.{closed}
 use Rattle.taking.proofs.close.Goals as goal
 
 pub returns-clause-closed : goal.returns-clause-closed

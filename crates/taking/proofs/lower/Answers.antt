@@ -1,6 +1,4 @@
-use borrow.Author.Rules.{rules}
-use mathlib.Core.Path.{refl}
-use Rattle.taking.proofs.Reaching.{lead_keys, lower_here, lower_not}
+use Rattle.taking.proofs.Reaching.{lower_here, lower_not}
 use Rattle.taking.proofs.lower.Goals as goal
 
 pub returns-then-number-work-clause-arrived : goal.returns-then-number-work-clause-arrived

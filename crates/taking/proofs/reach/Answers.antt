@@ -1,11 +1,6 @@
-use borrow.Author.Rules.{rules}
-use mathlib.Core.Path.{refl}
-use native.Mathlib.Omega.{arith}
-use lib.ListN.{length-set}
 use Rattle.meaning.specs.Region.{Tables}
-use Rattle.memory.proofs.TreeChanges.{tree_same}
 use Rattle.taking.specs.Steps.{places}
-use Rattle.taking.proofs.Reaching.{unseen_not_taken, keys_taken, longer, opened_tree, opened_taken, arrived_live, opened}
+use Rattle.taking.proofs.Reaching.{longer, arrived_live, opened}
 use Rattle.taking.proofs.reach.Goals as goal
 
 pub returns-then-old-eq0-clause-reached : goal.returns-then-old-eq0-clause-reached

@@ -1,9 +1,7 @@
-use borrow.Author.Rules.{rules}
 use native.Mathlib.Omega.{arith}
 use Prim.Native.Nat.{◌-◌}
 use Rattle.meaning.specs.Region.{Tables, tables}
-use Rattle.memory.proofs.Aims.{aims_same}
-use Rattle.taking.proofs.Following.{Following, Ahead, ahead, left, follow_none, follow_one, follow_less, follow_all}
+use Rattle.taking.proofs.Following.{Ahead, ahead, follow_none, follow_one, follow_less, follow_all}
 use Rattle.taking.proofs.relax.Goals as goal
 
 pub loop-next-init : goal.loop-next-init

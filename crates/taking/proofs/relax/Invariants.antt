@@ -1,9 +1,5 @@
-use borrow.Author.Rules.{rules}
-use native.Mathlib.Omega.{arith}
-use Prim.Native.Nat.{◌-◌}
-use Rattle.meaning.specs.Region.{Tables, tables}
-use Rattle.memory.proofs.Aims.{aims_same}
-use Rattle.taking.proofs.Following.{Following, Ahead, ahead, left, follow_none, follow_one, follow_less, follow_all}
+use Rattle.meaning.specs.Region.{tables}
+use Rattle.taking.proofs.Following.{Following, left}
 use Rattle.taking.proofs.relax.Given as goal
 
 -- The loop's invariant: the arcs before some arc have been followed, or are other nodes', and `next` is found from there on.

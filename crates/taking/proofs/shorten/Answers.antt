@@ -1,8 +1,4 @@
-use borrow.Author.Rules.{rules}
-use mathlib.Core.Path.{refl}
-use native.Mathlib.Omega.{arith}
-use lib.ListN.{length-set}
-use Rattle.taking.proofs.Reaching.{shorten_open, shorten_not, shorten_tree, shorten_taken}
+use Rattle.taking.proofs.Reaching.{shorten_open, shorten_not}
 use Rattle.taking.proofs.shorten.Goals as goal
 
 pub returns-then-work-n-ne0-clause-arrived : goal.returns-then-work-n-ne0-clause-arrived

@@ -1,11 +1,9 @@
-use borrow.Author.Rules.{rules}
 use native.Mathlib.Omega.{arith}
-use lib.ListN.{length-set}
 use Rattle.meaning.specs.Region.{Tables}
 use Rattle.memory.proofs.Aims.{aims_same}
 use Rattle.taking.specs.Steps.{places}
 use Rattle.taking.proofs.Reaching.{open_taken}
-use Rattle.taking.proofs.Starting.{none_taken, start_tree, started}
+use Rattle.taking.proofs.Starting.{none_taken, started}
 use Rattle.taking.proofs.start.Goals as goal
 
 pub returns-clause-aims : goal.returns-clause-aims

@@ -1,4 +1,3 @@
-use borrow.Author.Rules.{rules}
 use mathlib.Core.Path.{◌∙◌}
 use Rattle.meaning.specs.Region.{Tables, tables}
 use Rattle.memory.specs.Aim.{Aims}

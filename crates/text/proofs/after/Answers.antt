@@ -1,5 +1,4 @@
 use native.Mathlib.Omega.{arith}
-use borrow.Author.Rules.{rules}
 use Rattle.text.specs.Scan.{is_ink}
 use Rattle.text.proofs.Laws.{run_le, tail_all, word_others}
 use Rattle.text.proofs.after.Goals as goal

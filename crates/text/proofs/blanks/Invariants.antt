@@ -1,10 +1,8 @@
 use Prim.Native.Nat.{◌+◌, ◌-◌, ◌≤◌}
-use mathlib.Core.Path.{◌≡◌, sym, ◌∙◌}
+use mathlib.Core.Path.{◌≡◌}
 use lib.ListN.{length, drop}
-use borrow.Author.Rules.{rules}
 use Rattle.meaning.specs.Text.{is_blank}
 use Rattle.text.specs.Scan.{run}
-use Rattle.text.proofs.Laws.{run_go, run_halt, run_end}
 use Rattle.text.proofs.blanks.Given as goal
 
 -- i blanks are passed, and the run goes on with that of the rest

@@ -1,4 +1,3 @@
-use borrow.Author.Rules.{rules}
 use Rattle.text.proofs.Laws.{blank_none}
 use Rattle.text.proofs.ended.Goals as goal
 

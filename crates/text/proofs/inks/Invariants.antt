@@ -1,10 +1,7 @@
 use Prim.Native.Nat.{◌+◌, ◌-◌, ◌≤◌}
-use mathlib.Core.Bool.{not}
-use mathlib.Core.Path.{◌≡◌, ap, sym, ◌∙◌}
+use mathlib.Core.Path.{◌≡◌}
 use lib.ListN.{length, drop}
-use borrow.Author.Rules.{rules}
 use Rattle.text.specs.Scan.{run, is_ink}
-use Rattle.text.proofs.Laws.{run_go, run_halt, run_end}
 use Rattle.text.proofs.inks.Given as goal
 
 -- i bytes of the field are passed, and the run goes on with that of the rest

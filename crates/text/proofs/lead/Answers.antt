@@ -1,7 +1,6 @@
 use native.Mathlib.Omega.{arith}
-use borrow.Author.Rules.{rules}
 use Rattle.meaning.specs.Text.{is_blank}
-use Rattle.text.proofs.Laws.{run_le, tail_all}
+use Rattle.text.proofs.Laws.{run_le}
 use Rattle.text.proofs.lead.Goals as goal
 
 pub slice_bounds-result-count : goal.slice_bounds-result-count

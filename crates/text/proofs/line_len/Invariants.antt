@@ -1,11 +1,7 @@
 use Prim.Native.Nat.{◌+◌, ◌-◌, ◌≤◌}
-use mathlib.Core.Bool.{not}
-use mathlib.Core.Path.{◌≡◌, ap}
+use mathlib.Core.Path.{◌≡◌}
 use lib.ListN.{length, drop}
-use borrow.Author.Rules.{rules}
-use borrow.Author.Tests.{eq-eqb, ne_eqb}
 use Rattle.text.specs.Scan.{run, in_line}
-use Rattle.text.proofs.Laws.{run_go, run_halt, run_end}
 use Rattle.text.proofs.line_len.Given as goal
 
 -- i bytes of the line are passed, and the run goes on with that of the rest

@@ -1,12 +1,7 @@
 use Prim.Native.Nat.{◌^◌, ◌-◌, ◌≤◌, ◌<◌}
 use mathlib.Core.Path.{◌≡◌}
 use lib.ListN.{length, drop}
-use native.Mathlib.Omega.{arith}
-use native.Mathlib.Nat.{pow-suc}
-use native.Mathlib.Numerals.{add-one}
-use borrow.Author.Rules.{rules}
 use Rattle.meaning.specs.Text.{number as number_of, digits}
-use Rattle.text.proofs.Laws.{number_empty, number_long, number_digits, digits_low, digits_high, digits_go, digits_end, ninth}
 use Rattle.text.proofs.number.Given as goal
 
 -- i digits are read, and v is their value: the number is what the rest makes of it

@@ -1,6 +1,5 @@
 use native.Mathlib.Omega.{arith}
-use borrow.Author.Rules.{rules}
-use Rattle.text.proofs.Laws.{piece_inside, piece_line, piece_end}
+use Rattle.text.proofs.Laws.{piece_inside}
 use Rattle.text.proofs.piece_at.Goals as goal
 
 pub overflow_add-result : goal.overflow_add-result

@@ -1,9 +1,7 @@
 use Prim.Native.Nat.{◌-◌, ◌≤◌}
-use mathlib.Core.Path.{◌≡◌, sym}
+use mathlib.Core.Path.{◌≡◌}
 use lib.ListN.{length, drop}
-use borrow.Author.Rules.{rules}
 use Rattle.meaning.specs.Text.{same}
-use Rattle.text.proofs.Laws.{same_ne, same_go, same_halt, same_end}
 use Rattle.text.proofs.same.Given as goal
 
 -- i bytes are equal, so the rests decide

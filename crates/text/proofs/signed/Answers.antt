@@ -1,10 +1,9 @@
 use Prim.Native.Nat.{ℕ, ◌-◌}
-use mathlib.Core.Path.{subst, sym, ◌∙◌}
+use mathlib.Core.Path.{subst, sym}
 use mathlib.Core.List.{List}
 use lib.ListN.{length, take, drop}
-use borrow.Author.Rules.{rules}
 use Rattle.text.specs.Scan.{Below}
-use Rattle.text.proofs.Laws.{signed_empty, signed_minus, signed_plus, number_below}
+use Rattle.text.proofs.Laws.{number_below}
 use Rattle.text.proofs.signed.Goals as goal
 
 pub minus_of-requires : goal.minus_of-requires

@@ -1,7 +1,6 @@
 use mathlib.Core.Path.{sym}
 use lib.Seq.{length-take-le}
 use native.Mathlib.Omega.{arith}
-use borrow.Author.Rules.{rules}
 use Rattle.text.specs.Scan.{is_ink}
 use Rattle.text.proofs.Laws.{run_le, word_first}
 use Rattle.text.proofs.word.Goals as goal

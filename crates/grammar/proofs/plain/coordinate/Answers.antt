@@ -1,7 +1,7 @@
-use Rattle.std.proofs.Common.{ℕ, ◌<◌, pos, neg_ℤ, arith, w32, rules}
+use Rattle.std.proofs.Common.{ℕ, ◌<◌, pos, neg_ℤ, w32}
 use mir.ValLaws.{to_z-of_z}
-use Rattle.text.proofs.Laws.{plus_eq, minus_eq, minus_fits}
-use Rattle.grammar.proofs.Lines.{coordinate_plus, coordinate_minus}
+use Rattle.text.proofs.Laws.{minus_eq, minus_fits}
+use Rattle.grammar.proofs.Lines.{coordinate_minus}
 use Rattle.grammar.proofs.plain.coordinate.Goals as goal
 
 pub returns-then-is_minus : goal.returns-then-is_minus

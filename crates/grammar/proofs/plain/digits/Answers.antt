@@ -1,5 +1,5 @@
-use Rattle.std.proofs.Common.{◌-◌, refl, arith, rules}
-use Rattle.grammar.proofs.Lines.{Sofar, sofar_none, sofar_small, sofar_more, sofar_closed}
+use Rattle.std.proofs.Common.{arith}
+use Rattle.grammar.proofs.Lines.{sofar_small, sofar_more, sofar_closed}
 use Rattle.grammar.proofs.plain.digits.Goals as goal
 
 pub returns-then-digit-gt9 : goal.returns-then-digit-gt9

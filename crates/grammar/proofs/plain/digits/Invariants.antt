@@ -1,5 +1,5 @@
-use Rattle.std.proofs.Common.{◌-◌, refl, arith, rules}
-use Rattle.grammar.proofs.Lines.{Sofar, sofar_none, sofar_small, sofar_more, sofar_closed}
+use Rattle.std.proofs.Common.{◌-◌}
+use Rattle.grammar.proofs.Lines.{Sofar}
 use Rattle.grammar.proofs.plain.digits.Given as goal
 
 -- the bytes from at to i are digits, and value is theirs

@@ -1,4 +1,4 @@
-use Rattle.std.proofs.Common.{refl, arith, w32, rules}
+use Rattle.std.proofs.Common.{w32}
 use mir.ValLaws.{to_z-of_z}
 use Rattle.grammar.proofs.Lines.{point_said}
 use Rattle.grammar.proofs.plain.point_at.Goals as goal

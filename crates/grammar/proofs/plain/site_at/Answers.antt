@@ -1,4 +1,3 @@
-use Rattle.std.proofs.Common.{refl, arith, rules}
 use Rattle.grammar.proofs.Lines.{site_said}
 use Rattle.grammar.proofs.plain.site_at.Goals as goal
 

@@ -1,6 +1,5 @@
 use mathlib.Core.Bool.{false}
 use mathlib.Core.Path.{◌≡◌, ap, ◌∙◌}
-use borrow.Author.Rules.{rules}
 use Rattle.memory.specs.Memory.{rival_of}
 use Rattle.memory.specs.Aim.{line_to}
 use Rattle.memory.proofs.Closest.{no_site}

@@ -1,9 +1,5 @@
 use native.Mathlib.Omega.{arith}
-use borrow.Author.Rules.{rules}
-use lib.IntN.{pos}
-use lib.ListN.{get_or}
-use Rattle.straight.proofs.Laws.{small_back}
-use Rattle.memory.proofs.Closest.{sum_fits, sum_nearer, sum_kept}
+use Rattle.memory.proofs.Closest.{sum_fits}
 use Rattle.memory.proofs.estimate.closer.Goals as goal
 
 pub overflow_add-square : goal.overflow_add-square

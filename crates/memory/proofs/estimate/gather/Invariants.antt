@@ -1,9 +1,5 @@
-use mathlib.Core.Path.{◌≡◌}
 use Prim.Native.Nat.{◌-◌, ◌≤◌}
-use native.Mathlib.Omega.{arith}
-use borrow.Author.Rules.{rules}
-use mir.Facts.{to_z-of_z}
-use Rattle.memory.proofs.Aims.{Gathered, gathered_none, gathered_next, site_below, aims_all}
+use Rattle.memory.proofs.Aims.{Gathered}
 use Rattle.memory.proofs.estimate.gather.Given as goal
 
 abbrev pub invariant-loop-j : goal.invariant-loop-j

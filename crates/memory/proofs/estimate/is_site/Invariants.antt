@@ -1,12 +1,7 @@
 use mathlib.Core.Bool.{false}
-use mathlib.Core.Path.{◌≡◌, sym, ap, ◌∙◌}
+use mathlib.Core.Path.{◌≡◌}
 use Prim.Native.Nat.{◌-◌, ◌≤◌}
-use native.Mathlib.Omega.{arith}
-use borrow.Author.Tests.{eq-eqb, ne_eqb}
-use borrow.Author.Rules.{rules}
-use Rattle.meaning.specs.Scan.{any}
 use Rattle.memory.specs.Aim.{site_in}
-use Rattle.memory.proofs.Closest.{any_yes, any_none}
 use Rattle.memory.proofs.estimate.is_site.Given as goal
 
 abbrev pub invariant-loop-j : goal.invariant-loop-j

@@ -1,12 +1,10 @@
 use mathlib.Core.Path.{◌≡◌, refl, ap, ◌∙◌}
-use Prim.Native.Nat.{suc, ◌-◌, ◌≤◌}
+use Prim.Native.Nat.{◌≤◌}
 use native.Mathlib.Omega.{arith}
-use borrow.Author.Rules.{rules}
 use Rattle.meaning.specs.Straight.{root}
-use Rattle.straight.specs.Points.{farthest}
 use Rattle.straight.proofs.Laws.{root_small}
 use Rattle.memory.specs.Aim.{least_to, line_to}
-use Rattle.memory.proofs.Closest.{square_of, site_sized, least_next, line_none, line_found}
+use Rattle.memory.proofs.Closest.{least_next, line_none, line_found}
 use Rattle.memory.proofs.estimate.line_from.Goals as goal
 
 pub loop-j-init : goal.loop-j-init

@@ -1,12 +1,8 @@
-use mathlib.Core.Path.{◌≡◌, refl, ap, ◌∙◌}
+use mathlib.Core.Path.{◌≡◌}
 use Prim.Native.Nat.{suc, ◌-◌, ◌≤◌}
-use native.Mathlib.Omega.{arith}
-use borrow.Author.Rules.{rules}
-use Rattle.meaning.specs.Straight.{root}
 use Rattle.straight.specs.Points.{farthest}
-use Rattle.straight.proofs.Laws.{root_small}
-use Rattle.memory.specs.Aim.{least_to, line_to}
-use Rattle.memory.proofs.Closest.{square_of, site_sized, least_next, line_none, line_found}
+use Rattle.memory.specs.Aim.{least_to}
+use Rattle.memory.proofs.Closest.{square_of}
 use Rattle.memory.proofs.estimate.line_from.Given as goal
 
 abbrev pub invariant-loop-j : goal.invariant-loop-j

@@ -1,4 +1,3 @@
-use borrow.Author.Rules.{rules}
 use Rattle.memory.proofs.TreeTop.{top_none, top_node}
 use Rattle.memory.proofs.tree.first_open.Goals as goal
 

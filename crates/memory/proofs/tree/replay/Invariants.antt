@@ -1,8 +1,4 @@
-use mathlib.Core.Path.{◌∙◌}
-use native.Mathlib.Omega.{arith}
-use borrow.Author.Rules.{rules}
-use lib.ListN.{length-set}
-use Rattle.memory.proofs.TreeReplay.{Going, going_starts, going_on, going_stops, going_top}
+use Rattle.memory.proofs.TreeReplay.{Going}
 use Rattle.memory.proofs.tree.replay.Given as goal
 
 abbrev pub invariant-loop-i : goal.invariant-loop-i

@@ -2,7 +2,6 @@ use Rattle.reading.proofs.Bits.{low_bits, added}
 use lib.Pow.{shl_exact}
 use Prim.Native.Nat.{◌%◌}
 use native.Mathlib.Nat.{one-mul}
-use borrow.Author.Rules.{rules}
 use native.Mathlib.Omega.{arith}
 use Rattle.reading.proofs.marks.mark.Goals as goal
 

@@ -1,7 +1,4 @@
-use borrow.Author.Rules.{rules}
-use Prim.Native.Nat.{◌-◌}
-use native.Mathlib.Omega.{arith}
-use Rattle.taking.proofs.Chaining.{Linking, Due, due, link_none, link_one, link_all}
+use Rattle.taking.proofs.Chaining.{link_none, link_one}
 use Rattle.taking.proofs.chain.link.Goals as goal
 
 pub loop-left-init : goal.loop-left-init

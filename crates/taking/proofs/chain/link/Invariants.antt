@@ -1,7 +1,4 @@
-use borrow.Author.Rules.{rules}
-use Prim.Native.Nat.{◌-◌}
-use native.Mathlib.Omega.{arith}
-use Rattle.taking.proofs.Chaining.{Linking, Due, due, link_none, link_one, link_all}
+use Rattle.taking.proofs.Chaining.{Linking}
 use Rattle.taking.proofs.chain.link.Given as goal
 
 -- The loop's invariant: the arcs from `left` on are linked.
