@@ -1,5 +1,5 @@
 /* Wickswarm for a panel in C99 or C++: reads a region's road graph, node coordinates and fuel sites, and finds the k sites nearest by
- * road from a node. Link libpanel.a (x86-64), which `rt lib` writes into crates/panel/out.
+ * road from a node. Link libpanel.a, which `rt lib --cpu x86-64` in crates/panel writes into out/.
  *
  * A buffer is lent as a pointer and the number of its entries. What a caller owes: the pointer leads to that many entries, aligned as C
  * aligns them, and no buffer that a call may write overlaps another of the same call. The pointer of a buffer with 0 entries is not

@@ -1,4 +1,4 @@
-//! Wickswarm for a panel in Rust: a safe module over libpanel.a (`rt lib` in crates/panel), to be copied. Slices in, an enum out; it needs
+//! Wickswarm for a panel in Rust: a safe module over libpanel.a (`rt lib --cpu x86-64` in crates/panel), to be copied. Slices in, an enum out; it needs
 //! neither std nor an allocator. What each call promises stands in include/wickswarm.h: a refused call leaves every lent slice as it was.
 
 pub const TEXT_MOST: usize = 65_536;
