@@ -1,11 +1,12 @@
 // Runs the search, the panel call and the route stretch on the cases of its standard input, and prints what each answers and
 // what every buffer that it was lent then holds.
+// A write that fails ends the program with that error.
 #![tactic(auto)]
 
 ghost use Rattle.std.specs.Prelude.{◌≤◌, length};
 
-use libc::{STDIN_FILENO, STDOUT_FILENO};
 use meaning::{Answer, Number, Signed};
+use std::io;
 
 fn least(a: usize, b: usize) -> usize
     ensures { (result ≤ a) × (result ≤ b) }
@@ -114,13 +115,13 @@ fn placed(s: &[u8], from: usize, t: &mut [i32], most: usize) -> usize
     at
 }
 
-fn gap() {
-    io::write_all(STDOUT_FILENO, b" ");
+fn gap(rt: &impl Print) -> io::Result<()> {
+    rt.print(" ")
 }
 
-fn show(a: u64) {
-    gap();
-    io::print_decimal(STDOUT_FILENO, a);
+fn show(rt: &impl Print, a: u64) -> io::Result<()> {
+    gap(rt)?;
+    rt.print(a)
 }
 
 // A digest of what came before and one value more.
@@ -136,89 +137,92 @@ fn longer(x: u32) -> u64 {
     x as u64
 }
 
-fn digest(t: &[u16]) {
+fn digest(rt: &impl Print, t: &[u16]) -> io::Result<()> {
     let mut sum = 0;
     let mut i = 0;
     while i < t.len() {
         sum = mixed(sum, long(t[i]));
         i += 1;
     }
-    show(sum);
+    show(rt, sum)
 }
 
-fn digest_wide(t: &[u32]) {
+fn digest_wide(rt: &impl Print, t: &[u32]) -> io::Result<()> {
     let mut sum = 0;
     let mut i = 0;
     while i < t.len() {
         sum = mixed(sum, longer(t[i]));
         i += 1;
     }
-    show(sum);
+    show(rt, sum)
 }
 
 // The first entries, `most` of them.
-fn each(t: &[u16], most: usize)
+fn each(rt: &impl Print, t: &[u16], most: usize) -> io::Result<()>
     requires { most ≤ length t.now }
 {
     let mut i = 0;
     while i < most {
-        show(long(t[i]));
+        show(rt, long(t[i]))?;
         i += 1;
     }
+    Ok(())
 }
 
-fn each_wide(t: &[u32], most: usize)
+fn each_wide(rt: &impl Print, t: &[u32], most: usize) -> io::Result<()>
     requires { most ≤ length t.now }
 {
     let mut i = 0;
     while i < most {
-        show(longer(t[i]));
+        show(rt, longer(t[i]))?;
         i += 1;
     }
+    Ok(())
 }
 
 // A buffer: its length, a digest of all of it, and its first entries.
-fn buffer(name: &[u8], t: &[u16]) {
-    io::write_all(STDOUT_FILENO, name);
-    show(t.len() as u64);
-    digest(t);
-    each(t, least(t.len(), 64));
+fn buffer(rt: &impl Print, name: &str, t: &[u16]) -> io::Result<()> {
+    rt.print(name)?;
+    show(rt, t.len() as u64)?;
+    digest(rt, t)?;
+    each(rt, t, least(t.len(), 64))
 }
 
-fn buffer_wide(name: &[u8], t: &[u32]) {
-    io::write_all(STDOUT_FILENO, name);
-    show(t.len() as u64);
-    digest_wide(t);
-    each_wide(t, least(t.len(), 64));
+fn buffer_wide(rt: &impl Print, name: &str, t: &[u32]) -> io::Result<()> {
+    rt.print(name)?;
+    show(rt, t.len() as u64)?;
+    digest_wide(rt, t)?;
+    each_wide(rt, t, least(t.len(), 64))
 }
 
-fn stretch(r: &[u16]) {
-    io::write_all(STDOUT_FILENO, b" :");
-    show(r.len() as u64);
-    each(r, r.len());
+fn stretch(rt: &impl Print, r: &[u16]) -> io::Result<()> {
+    rt.print(" :")?;
+    show(rt, r.len() as u64)?;
+    each(rt, r, r.len())
 }
 
 // The listed routes, each by the call for it.
-fn stretches(routes: &[u16], ends: &[u16], count: usize) {
+fn stretches(rt: &impl Print, routes: &[u16], ends: &[u16], count: usize) -> io::Result<()> {
     let mut i = 0;
     while i < count {
         i += 1;
-        stretch(search::route(routes, ends, i));
+        stretch(rt, search::route(routes, ends, i))?;
     }
+    Ok(())
 }
 
-fn answer(a: Answer, routes: &[u16], ends: &[u16]) {
+fn answer(rt: &impl Print, a: Answer, routes: &[u16], ends: &[u16]) -> io::Result<()> {
     match a {
         Answer::Denied { number, place } => {
-            io::write_all(STDOUT_FILENO, b"x");
-            show(number as u64);
-            show(place as u64);
+            rt.print("x")?;
+            show(rt, number as u64)?;
+            show(rt, place as u64)
         }
         Answer::Listed { sites, taken } => {
-            io::write_all(STDOUT_FILENO, b"=");
-            show(sites as u64);
-            show(taken as u64);
-            stretches(routes, ends, sites);
+            rt.print("=")?;
+            show(rt, sites as u64)?;
+            show(rt, taken as u64)?;
+            stretches(rt, routes, ends, sites)
         }
     }
 }
@@ -271,17 +275,26 @@ fn panelled(
     )
 }
 
-fn told(a: Answer, work: &[u32], listed: &[u16], lengths: &[u32], ends: &[u16], routes: &[u16]) {
-    answer(a, routes, ends);
-    buffer_wide(b" w", work);
-    buffer(b" s", listed);
-    buffer_wide(b" d", lengths);
-    buffer(b" e", ends);
-    buffer(b" r", routes);
+fn told(
+    rt: &impl Print,
+    a: Answer,
+    work: &[u32],
+    listed: &[u16],
+    lengths: &[u32],
+    ends: &[u16],
+    routes: &[u16],
+) -> io::Result<()> {
+    answer(rt, a, routes, ends)?;
+    buffer_wide(rt, " w", work)?;
+    buffer(rt, " s", listed)?;
+    buffer_wide(rt, " d", lengths)?;
+    buffer(rt, " e", ends)?;
+    buffer(rt, " r", routes)
 }
 
 // The call that the case's first number names, with the six columns and the five buffers.
 fn asked_in(
+    rt: &impl Print,
     t: &[u16],
     h: &[u16],
     w: &[u32],
@@ -294,18 +307,19 @@ fn asked_in(
     lengths: &mut [u32],
     ends: &mut [u16],
     routes: &mut [u16],
-) {
+) -> io::Result<()> {
     if c[0] == 0 {
         let a = panelled(t, h, w, x, y, z, c, work, listed, lengths, ends, routes);
-        told(a, work, listed, lengths, ends, routes);
+        told(rt, a, work, listed, lengths, ends, routes)
     } else {
         let a = searched(t, h, w, x, y, z, c, work, listed, lengths, ends, routes);
-        told(a, work, listed, lengths, ends, routes);
+        told(rt, a, work, listed, lengths, ends, routes)
     }
 }
 
 // The buffers hold 7 everywhere, and the case says how much of each is lent.
 fn asked(
+    rt: &impl Print,
     tails: &[u16],
     heads: &[u16],
     weights: &[u32],
@@ -313,7 +327,7 @@ fn asked(
     ys: &[i32],
     sites: &[u16],
     c: &[usize; 17],
-) {
+) -> io::Result<()> {
     let mut work = [7u32; 4200];
     let mut listed = [7u16; 40];
     let mut lengths = [7u32; 40];
@@ -325,6 +339,7 @@ fn asked(
     let e = least(c[15], 40);
     let r = least(c[16], 33000);
     asked_in(
+        rt,
         tails,
         heads,
         weights,
@@ -337,11 +352,12 @@ fn asked(
         &mut lengths[..d],
         &mut ends[..e],
         &mut routes[..r],
-    );
+    )
 }
 
 // The case says how much of each table is lent.
 fn lent(
+    rt: &impl Print,
     tails: &[u16],
     heads: &[u16],
     weights: &[u32],
@@ -349,7 +365,7 @@ fn lent(
     ys: &[i32],
     sites: &[u16],
     c: &[usize; 17],
-) {
+) -> io::Result<()> {
     let t = least(c[6], tails.len());
     let h = least(c[7], heads.len());
     let w = least(c[8], weights.len());
@@ -357,6 +373,7 @@ fn lent(
     let y = least(c[10], ys.len());
     let z = least(c[11], sites.len());
     asked(
+        rt,
         &tails[..t],
         &heads[..h],
         &weights[..w],
@@ -364,11 +381,11 @@ fn lent(
         &ys[..y],
         &sites[..z],
         c,
-    );
+    )
 }
 
 // The tables of a case, behind its numbers.
-fn search_case(s: &[u8]) {
+fn search_case(rt: &impl Print, s: &[u8]) -> io::Result<()> {
     let mut c = [0usize; 17];
     let mut tails = [7u16; 4100];
     let mut heads = [7u16; 4100];
@@ -383,58 +400,62 @@ fn search_case(s: &[u8]) {
     let at = placed(s, at, &mut xs, c[9]);
     let at = placed(s, at, &mut ys, c[10]);
     numbers(s, at, &mut sites, c[11]);
-    lent(&tails, &heads, &weights, &xs, &ys, &sites, &c);
+    lent(rt, &tails, &heads, &weights, &xs, &ys, &sites, &c)
 }
 
-fn routed(routes: &[u16], ends: &[u16], c: &[usize; 3]) {
+fn routed(rt: &impl Print, routes: &[u16], ends: &[u16], c: &[usize; 3]) -> io::Result<()> {
     let e = least(c[1], ends.len());
     let r = least(c[2], routes.len());
-    stretch(search::route(&routes[..r], &ends[..e], c[0]));
+    stretch(rt, search::route(&routes[..r], &ends[..e], c[0]))
 }
 
-fn route_case(s: &[u8]) {
+fn route_case(rt: &impl Print, s: &[u8]) -> io::Result<()> {
     let mut c = [0usize; 3];
     let mut ends = [7u16; 40];
     let mut routes = [7u16; 33000];
     let at = counts(s, 0, &mut c);
     let at = numbers(s, at, &mut ends, c[1]);
     numbers(s, at, &mut routes, c[2]);
-    routed(&routes, &ends, &c);
+    routed(rt, &routes, &ends, &c)
 }
 
-fn run(kind: u8, s: &[u8]) {
+fn run(rt: &impl Print, kind: u8, s: &[u8]) -> io::Result<()> {
     if kind == 114 {
-        route_case(s);
+        route_case(rt, s)?;
     } else {
-        search_case(s);
+        search_case(rt, s)?;
     }
-    io::write_all(STDOUT_FILENO, b"\n");
+    rt.print("\n")
 }
 
 // One case, by way of the buffer s; false where the input has ended.
-fn case(s: &mut [u8]) -> bool {
+// A read that fails ends the input.
+fn case<I: io::Read>(rt: &impl Print, input: &mut I, s: &mut [u8]) -> io::Result<bool> {
     let mut first = [0u8; 9];
     if s.len() < 1 {
-        return false;
+        return Ok(false);
     }
     let most = s.len() - 1;
-    if io::read_full(STDIN_FILENO, &mut first) < 9 {
-        return false;
+    if input.read_exact(&mut first).is_err() {
+        return Ok(false);
     }
     let len = least(count_at(&first[2..8], 0), most);
-    io::read_full(STDIN_FILENO, &mut s[..len + 1]);
-    run(first[0], &s[..len]);
-    true
+    // A text that ends early stands in front of what the buffer held before.
+    let _ = input.read_exact(&mut s[..len + 1]);
+    run(rt, first[0], &s[..len])?;
+    Ok(true)
 }
 
-fn main() {
+fn main(rt: HostRuntime) -> io::Result<()> {
+    let mut input = rt.stdin();
     let mut s = [0u8; 150000];
     let mut left: usize = 5000;
     while 0 < left {
-        if case(&mut s) {
+        if case(&rt, &mut input, &mut s)? {
             left -= 1;
         } else {
-            return;
+            return Ok(());
         }
     }
+    Ok(())
 }

@@ -1,10 +1,11 @@
 // Runs the list over the regions of its standard input: for each a line with the sizes of its four texts, then the texts. A blank line follows each list.
+// A read that fails ends the input. A write that fails ends the program with that error.
 #![tactic(auto)]
 
 ghost use Rattle.std.specs.Prelude.{◌≤◌, length};
 
-use libc::{STDIN_FILENO, STDOUT_FILENO};
 use meaning::Number;
+use std::io;
 
 fn number(field: &[u8]) -> usize {
     match text::number(field) {
@@ -14,42 +15,51 @@ fn number(field: &[u8]) -> usize {
 }
 
 // The next text, of the size that the field tells, or what the buffer holds of it.
-fn fetch(field: &[u8], text: &mut [u8]) -> usize
+fn fetch(input: &mut impl io::Read, field: &[u8], text: &mut [u8]) -> usize
     ensures { result ≤ length text.new }
 {
     let size = number(field);
     if text.len() < size {
-        return io::read_full(STDIN_FILENO, text);
+        return pack::read_full(input, text);
     }
-    io::read_full(STDIN_FILENO, &mut text[..size]);
+    pack::read_full(input, &mut text[..size]);
     size
 }
 
 // One region; false where the input has ended.
-fn region() -> bool {
+fn region(rt: &(impl Print + Eprint), input: &mut impl io::Read) -> io::Result<bool> {
     let mut sizes = [0u8; 24];
     let mut graph = [0u8; 65537];
     let mut points = [0u8; 65537];
     let mut stands = [0u8; 65537];
     let mut ask = [0u8; 65537];
-    if io::read_full(STDIN_FILENO, &mut sizes) < 24 {
-        return false;
+    if pack::read_full(input, &mut sizes) < 24 {
+        return Ok(false);
     }
-    let a = fetch(&sizes[0..5], &mut graph);
-    let b = fetch(&sizes[6..11], &mut points);
-    let c = fetch(&sizes[12..17], &mut stands);
-    let d = fetch(&sizes[18..23], &mut ask);
-    pack::print(&graph[..a], &points[..b], &stands[..c], &ask[..d], false);
-    io::write_all(STDOUT_FILENO, b"\n");
-    true
+    let a = fetch(input, &sizes[0..5], &mut graph);
+    let b = fetch(input, &sizes[6..11], &mut points);
+    let c = fetch(input, &sizes[12..17], &mut stands);
+    let d = fetch(input, &sizes[18..23], &mut ask);
+    pack::print(
+        rt,
+        &graph[..a],
+        &points[..b],
+        &stands[..c],
+        &ask[..d],
+        false,
+    )?;
+    rt.print("\n")?;
+    Ok(true)
 }
 
-fn main() {
+fn main(rt: HostRuntime) -> io::Result<()> {
+    let mut input = rt.stdin();
     let mut left: usize = 1000;
     while 0 < left {
-        if !region() {
-            return;
+        if !region(&rt, &mut input)? {
+            return Ok(());
         }
         left -= 1;
     }
+    Ok(())
 }
