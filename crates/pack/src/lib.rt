@@ -2,7 +2,8 @@
 // A write that fails ends the list with that error.
 #![tactic(auto)]
 
-ghost use Rattle.std.specs.Prelude.{◌≤◌, length};
+ghost use Rattle.std.specs.Prelude.{◌≤◌, length, take};
+ghost use Rattle.std.specs.Io.KnownBytes.{Consumes};
 
 use meaning::{Answer, NODES_MOST, PANEL_K, Read};
 use std::io;
@@ -10,15 +11,15 @@ use std::io;
 // Reads until the buffer is full, the input ends or a read fails, and answers how many bytes it put
 // at the start of the buffer.
 pub fn read_full<I: io::Read>(input: &mut I, text: &mut [u8]) -> usize
-    ensures { result ≤ length text.new }
+    ensures within { result ≤ length text.new }
+    ensures bytes { Consumes (I.remaining input.old) (I.remaining input.new) (take result text.new) }
 {
     let mut done = 0;
     while done < text.len() {
-        let got = input.read(&mut text[done..]).unwrap_or(0);
-        if got == 0 {
-            break;
+        match input.read(&mut text[done..]) {
+            Ok(0) | Err(_) => break,
+            Ok(got) => done += got,
         }
-        done += got;
     }
     done
 }
