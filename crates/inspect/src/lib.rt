@@ -5,7 +5,7 @@ ghost use Rattle.std.specs.Prelude.{◌≡◌, true, cond, ◌&&◌, ◌*◌, �
 ghost use Rattle.meaning.specs.Limits.{base, value_outside};
 ghost use Rattle.meaning.specs.Files.{is_coordinate};
 ghost use Rattle.meaning.specs.Region.{tables, rooms};
-ghost use Rattle.meaning.specs.Checks.{first_fault, counts_fit, tables_fit, rooms_fit, point_fault, arc_fault, site_fault, inspect as verdictOf};
+ghost use Rattle.meaning.specs.Checks.{first_fault, counts_fit, tables_fit, rooms_fit, point_fault, arc_fault, site_fault, inspect as verdict_of};
 ghost use Rattle.inspect.specs.Columns.{counted, points_of, arcs_of, sites_of, arc_fault_of, AllPlaced, of_entries};
 ghost use Rattle.inspect.specs.Sites.{IsNew, AllStand};
 
@@ -291,7 +291,7 @@ pub fn inspect(
     ends: &[u16],
     routes: &[u16],
 ) -> Verdict
-    ensures { result ≡ verdictOf base (tables tails.now heads.now weights.now xs.now ys.now sites.now n m s) query k
+    ensures { result ≡ verdict_of base (tables tails.now heads.now weights.now xs.now ys.now sites.now n m s) query k
         (rooms work.now listed.now lengths.now ends.now routes.now) }
 {
     let limits = meaning::base();

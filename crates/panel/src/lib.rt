@@ -5,7 +5,7 @@
 ghost use Rattle.std.specs.Prelude.{◌≡◌, ◌<◌};
 ghost use Rattle.meaning.specs.Limits.{base};
 ghost use Rattle.meaning.specs.Region.{tables, rooms};
-ghost use Rattle.meaning.specs.Boundary.{field, packed as packedOf, read_code, answer_code, ReadFits, AnswerFits, GraphCalled, CoordinatesCalled, SitesCalled, SearchCalled, PanelCalled, stretch_code};
+ghost use Rattle.meaning.specs.Boundary.{field, packed as packed_of, read_code, answer_code, ReadFits, AnswerFits, GraphCalled, CoordinatesCalled, SitesCalled, SearchCalled, PanelCalled, stretch_code};
 
 use meaning::{Answer, Read};
 
@@ -20,7 +20,7 @@ fn wide(x: usize) -> u64
 
 fn packed(number: usize, first: usize, second: usize) -> u64
     requires { (number < 256) × (first < field) × (second < field) }
-    ensures { result ≡ packedOf number first second }
+    ensures { result ≡ packed_of number first second }
 {
     (wide(number) * FIELD + wide(first)) * FIELD + wide(second)
 }

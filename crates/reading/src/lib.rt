@@ -3,7 +3,7 @@
 
 ghost use Rattle.std.specs.Prelude.{◌≡◌, ◌≤◌, length, nat_abs};
 ghost use Rattle.meaning.specs.Limits.{base};
-ghost use Rattle.meaning.specs.Files.{awaiting, within as isWithin, is_coordinate, most_rows, agrees as isAgreed, counts_fault, entry_fault, node_of, read_from, handed_in, reading, answered};
+ghost use Rattle.meaning.specs.Files.{awaiting, within as is_within, is_coordinate, most_rows, agrees as is_agreed, counts_fault, entry_fault, node_of, read_from, handed_in, reading, answered};
 ghost use Rattle.meaning.specs.Text.{lines};
 ghost use Rattle.meaning.specs.Checks.{or_else};
 ghost use Rattle.reading.specs.Said.{said_at};
@@ -43,7 +43,7 @@ struct Said {
 }
 
 pub fn within(lo: usize, x: usize, hi: usize) -> bool
-    ensures { result ≡ isWithin lo x hi }
+    ensures { result ≡ is_within lo x hi }
 {
     if lo <= x { x <= hi } else { false }
 }
@@ -77,7 +77,7 @@ fn most_rows(limits: Limits, kind: Kind) -> usize
 }
 
 fn agrees(kind: Kind, given: usize, n: usize) -> bool
-    ensures { result ≡ isAgreed kind given n }
+    ensures { result ≡ is_agreed kind given n }
 {
     match kind {
         Kind::Graph => true,

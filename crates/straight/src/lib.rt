@@ -2,7 +2,7 @@
 #![tactic(auto)]
 
 ghost use Rattle.std.specs.Prelude.{◌≡◌, ◌*◌, ◌≤◌, nat_abs};
-ghost use Rattle.meaning.specs.Straight.{gap, root as rootOf, squares as squaresOf};
+ghost use Rattle.meaning.specs.Straight.{gap, root as root_of, squares as squares_of};
 ghost use Rattle.meaning.specs.Taking.{total as total_of};
 ghost use Rattle.straight.specs.Points.{Placed, entry, farthest};
 
@@ -16,7 +16,7 @@ pub struct Line(pub u32);
 // The largest whole number whose square is at most x, by Newton's method: the first guess is a power of two above the root, and each
 // next one is less and still no less than the root. Nothing is multiplied, so the square of a guess need not fit.
 pub fn root(x: u64) -> u64
-    ensures { result ≡ rootOf x }
+    ensures { result ≡ root_of x }
 {
     if x == 0 {
         return 0;
@@ -43,7 +43,7 @@ pub fn apart(a: i32, b: i32) -> u64
 pub fn squares(xs: &[i32], ys: &[i32], a: usize, b: usize) -> u64
     requires placed { Placed xs.now ys.now a }
     requires placed_2 { Placed xs.now ys.now b }
-    ensures { (result ≡ squaresOf (entry xs.now) (entry ys.now) a b) × (result ≤ farthest) }
+    ensures { (result ≡ squares_of (entry xs.now) (entry ys.now) a b) × (result ≤ farthest) }
 {
     apart(xs[a], xs[b]) + apart(ys[a], ys[b])
 }

@@ -2,8 +2,8 @@
 #![tactic(auto)]
 
 ghost use Rattle.std.specs.Prelude.{◌≡◌};
-ghost use Rattle.meaning.specs.Text.{trim, is_blank, fields, first, others, none, same as sameBytes, number as number_of, plus, minus, signed as signed_of};
-ghost use Rattle.text.specs.Scan.{run, in_line, is_ink, lead as leadOf, Below};
+ghost use Rattle.meaning.specs.Text.{trim, is_blank, fields, first, others, none, same as same_bytes, number as number_of, plus, minus, signed as signed_of};
+ghost use Rattle.text.specs.Scan.{run, in_line, is_ink, lead as lead_of, Below};
 ghost use Rattle.text.specs.Read.{piece_at, past_of, moved_to};
 
 use meaning::{Number, Signed};
@@ -137,7 +137,7 @@ fn inks(rest: &[u8]) -> usize
 
 // The rest of a line from its next field on.
 fn lead(rest: &[u8]) -> &[u8]
-    ensures { result.now ≡ leadOf rest.now }
+    ensures { result.now ≡ lead_of rest.now }
 {
     let a = blanks(rest);
     &rest[a..]
@@ -171,7 +171,7 @@ pub fn ended(rest: &[u8]) -> bool
 
 // Whether a field is the word w, byte by byte.
 pub fn same(f: &[u8], w: &[u8]) -> bool
-    ensures { result ≡ sameBytes f.now w.now }
+    ensures { result ≡ same_bytes f.now w.now }
 {
     if f.len() != w.len() {
         return false;

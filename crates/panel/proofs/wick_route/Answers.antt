@@ -4,31 +4,31 @@ use mathlib.Core.Path.{◌∙◌}
 use Prim.Native.Nat.{◌-◌}
 use lib.ListN.{length}
 use Rattle.panel.proofs.wick_route.Goals as goal
+use Rattle.panel.proofs.wick_route.Goals.{Else-size-eq0}
+
+-- the stretch has entries
+held : (c : Else-size-eq0) → Shown c.args.ends.now c.args.rank (length c.route-stretch.result.now)
+held c = shown c.args.routes.now c.args.ends.now c.args.rank c.route-stretch.result.now c.route-stretch.ensures c.if-size-eq0.false
 
 pub overflow_sub-end : goal.overflow_sub-end
 overflow_sub-end c =
-    let held : Shown c.args.ends.now c.args.rank (length c.route-stretch.result.now) = shown c.args.routes.now c.args.ends.now c.args.rank c.route-stretch.result.now c.route-stretch.ensures c.if-size-eq0.false in
-    held.low
+    (held (goal.at.overflow_sub-end c).Else-size-eq0).low
 
 pub offset_bounds-ends-rank : goal.offset_bounds-ends-rank
 offset_bounds-ends-rank c =
-    let held : Shown c.args.ends.now c.args.rank (length c.route-stretch.result.now) = shown c.args.routes.now c.args.ends.now c.args.rank c.route-stretch.result.now c.route-stretch.ensures c.if-size-eq0.false in
-    let s = held in omega arith
+    let s = (held (goal.at.offset_bounds-ends-rank c).Else-size-eq0) in omega arith
 
 pub bounds-ends-rank : goal.bounds-ends-rank
 bounds-ends-rank c =
-    let held : Shown c.args.ends.now c.args.rank (length c.route-stretch.result.now) = shown c.args.routes.now c.args.ends.now c.args.rank c.route-stretch.result.now c.route-stretch.ensures c.if-size-eq0.false in
-    let s = held in omega arith
+    let s = (held (goal.at.bounds-ends-rank c).Else-size-eq0) in omega arith
 
 pub overflow_sub-end-2 : goal.overflow_sub-end-2
 overflow_sub-end-2 c =
-    let held : Shown c.args.ends.now c.args.rank (length c.route-stretch.result.now) = shown c.args.routes.now c.args.ends.now c.args.rank c.route-stretch.result.now c.route-stretch.ensures c.if-size-eq0.false in
-    held.most
+    (held (goal.at.overflow_sub-end-2 c).Else-size-eq0).most
 
 pub packed-requires : goal.packed-requires
 packed-requires c =
-    let held : Shown c.args.ends.now c.args.rank (length c.route-stretch.result.now) = shown c.args.routes.now c.args.ends.now c.args.rank c.route-stretch.result.now c.route-stretch.ensures c.if-size-eq0.false in
-    let s = held in
+    let s = (held (goal.at.packed-requires c).Else-size-eq0) in
     let e = c.shared_slice_known-3-1.given (c.args.rank - 1) in
     (omega arith, omega arith, omega arith)
 
