@@ -72,7 +72,8 @@ fn digits(text: &[u8], at: usize, end: u8) -> Unsigned
     while i < most {
         let b = text[i];
         let digit = std::num::wrapping_sub_u8(b, 48);
-        if 9 < digit {
+        let ends = 9 < digit;
+        if ends {
             return closed(value, at, i, b == end);
         }
         value = value * 10 + digit as usize;

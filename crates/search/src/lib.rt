@@ -79,7 +79,8 @@ fn steps(
         if k <= count {
             break;
         }
-        if s <= count {
+        let all_listed = s <= count;
+        if all_listed {
             break;
         }
         let Next::Node(u) = taking::choose(xs, ys, sites, n, s, 0 < count, ax, ay, work, tree)

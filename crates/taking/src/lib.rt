@@ -52,7 +52,8 @@ fn lower(work: &mut [u32], n: usize, u: usize, h: usize)
     ensures arrived { Arrived n u h (get_or work.old h 0) work.old work.new }
 {
     let number = (u + 1) as u32;
-    if number < work[n + n + h] {
+    let lower = number < work[n + n + h];
+    if lower {
         work[n + n + h] = number;
     }
 }
@@ -65,7 +66,8 @@ fn shorten(work: &mut [u32], n: usize, u: usize, h: usize, at: u32, tree: &mut [
     ensures same_taken { SameTaken n work.old work.new }
     ensures arrived { Arrived n u h at work.old work.new }
 {
-    if work[n + h] != 0 {
+    let is_open = work[n + h] != 0;
+    if is_open {
         work[h] = at;
         work[n + n + h] = (u + 1) as u32;
         memory::replay(work, n, h, tree);

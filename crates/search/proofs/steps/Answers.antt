@@ -36,12 +36,12 @@ choose-requires-clause-ground c =
 pub choose-requires-clause-aiming : goal.choose-requires-clause-aiming
 choose-requires-clause-aiming c =
     let inv = c.loop-taken.invariant in
-    aiming c.requires.passed inv.ran c.if-s-count.false
+    aiming c.requires.passed inv.ran c.if-all_listed.false
 
 pub take-site-requires-clause-n_in_bounds : goal.take-site-requires-clause-n_in_bounds
 take-site-requires-clause-n_in_bounds c =
     let inv = c.loop-taken.invariant in
-    let left = c.if-s-count.false in
+    let left = c.if-all_listed.false in
     let ran = renewed c.requires.passed inv.ran left c.choose.ensures.stays in
     let node = picked_node c.requires.passed inv.ran left c.choose.ensures.chosen c.in-Node.is in
     let f = first_of c.requires.passed inv.ran node in
@@ -50,7 +50,7 @@ take-site-requires-clause-n_in_bounds c =
 pub take-site-requires-clause-ground : goal.take-site-requires-clause-ground
 take-site-requires-clause-ground c =
     let inv = c.loop-taken.invariant in
-    let left = c.if-s-count.false in
+    let left = c.if-all_listed.false in
     let ran = renewed c.requires.passed inv.ran left c.choose.ensures.stays in
     let node = picked_node c.requires.passed inv.ran left c.choose.ensures.chosen c.in-Node.is in
     let f = first_of c.requires.passed inv.ran node in
@@ -59,7 +59,7 @@ take-site-requires-clause-ground c =
 pub take-site-requires-clause-arcs : goal.take-site-requires-clause-arcs
 take-site-requires-clause-arcs c =
     let inv = c.loop-taken.invariant in
-    let left = c.if-s-count.false in
+    let left = c.if-all_listed.false in
     let ran = renewed c.requires.passed inv.ran left c.choose.ensures.stays in
     let node = picked_node c.requires.passed inv.ran left c.choose.ensures.chosen c.in-Node.is in
     let f = first_of c.requires.passed inv.ran node in
@@ -68,7 +68,7 @@ take-site-requires-clause-arcs c =
 pub take-site-requires-clause-bounded : goal.take-site-requires-clause-bounded
 take-site-requires-clause-bounded c =
     let inv = c.loop-taken.invariant in
-    let left = c.if-s-count.false in
+    let left = c.if-all_listed.false in
     let ran = renewed c.requires.passed inv.ran left c.choose.ensures.stays in
     let node = picked_node c.requires.passed inv.ran left c.choose.ensures.chosen c.in-Node.is in
     let f = first_of c.requires.passed inv.ran node in
@@ -77,7 +77,7 @@ take-site-requires-clause-bounded c =
 pub take-site-requires-clause-open_site : goal.take-site-requires-clause-open_site
 take-site-requires-clause-open_site c =
     let inv = c.loop-taken.invariant in
-    let left = c.if-s-count.false in
+    let left = c.if-all_listed.false in
     let ran = renewed c.requires.passed inv.ran left c.choose.ensures.stays in
     let node = picked_node c.requires.passed inv.ran left c.choose.ensures.chosen c.in-Node.is in
     let f = first_of c.requires.passed inv.ran node in
@@ -86,7 +86,7 @@ take-site-requires-clause-open_site c =
 pub take-site-requires-clause-aims : goal.take-site-requires-clause-aims
 take-site-requires-clause-aims c =
     let inv = c.loop-taken.invariant in
-    let left = c.if-s-count.false in
+    let left = c.if-all_listed.false in
     let ran = renewed c.requires.passed inv.ran left c.choose.ensures.stays in
     let node = picked_node c.requires.passed inv.ran left c.choose.ensures.chosen c.in-Node.is in
     let f = first_of c.requires.passed inv.ran node in
@@ -95,7 +95,7 @@ take-site-requires-clause-aims c =
 pub list-count-requires-clause-n_in_bounds : goal.list-count-requires-clause-n_in_bounds
 list-count-requires-clause-n_in_bounds c =
     let inv = c.loop-taken.invariant in
-    let f = first_of c.requires.passed inv.ran (picked_node c.requires.passed inv.ran c.if-s-count.false c.choose.ensures.chosen c.in-Node.is) in
+    let f = first_of c.requires.passed inv.ran (picked_node c.requires.passed inv.ran c.if-all_listed.false c.choose.ensures.chosen c.in-Node.is) in
     let kept = c.take-site.auto.work in
     let same = c.choose.auto.work in
     let room = inv.ran.live.holds.room in
@@ -105,7 +105,7 @@ list-count-requires-clause-n_in_bounds c =
 pub loop-taken-preserved : goal.loop-taken-preserved
 loop-taken-preserved c =
     let inv = c.loop-taken.invariant in
-    let left = c.if-s-count.false in
+    let left = c.if-all_listed.false in
     let under : c.loop-taken.count < c.args.k = c.if-k-count.false in
     let listed : c.loop-taken.count < length c.args.listed.now = omega (arith, c.requires.n_in_bounds) in
     let lengths : c.loop-taken.count < length c.args.lengths.now = omega (arith, c.requires.n_in_bounds) in
@@ -129,15 +129,15 @@ returns-then-k-count c =
     let inv = c.loop-taken.invariant in
     as_lent c.start.ensures.live.holds.past (stops_filled c.requires.passed inv.ran c.if-k-count.true c.args.n inv.most)
 
-pub returns-then-s-count : goal.returns-then-s-count
-returns-then-s-count c =
+pub returns-then-all_listed : goal.returns-then-all_listed
+returns-then-all_listed c =
     let inv = c.loop-taken.invariant in
-    as_lent c.start.ensures.live.holds.past (stops_done c.requires.passed inv.ran c.if-s-count.true c.args.n inv.most)
+    as_lent c.start.ensures.live.holds.past (stops_done c.requires.passed inv.ran c.if-all_listed.true c.args.n inv.most)
 
 pub returns-in_default : goal.returns-in_default
 returns-in_default c =
     let inv = c.loop-taken.invariant in
-    let left = c.if-s-count.false in
+    let left = c.if-all_listed.false in
     as_lent c.start.ensures.live.holds.past
     (stops_closed c.requires.passed (renewed c.requires.passed inv.ran left c.choose.ensures.stays)
     (picked_none c.requires.passed inv.ran left c.choose.ensures.chosen c.in_default.is) c.args.n inv.most)

@@ -2,8 +2,8 @@ use Rattle.std.proofs.Common.{arith}
 use Rattle.grammar.proofs.Lines.{sofar_small, sofar_more, sofar_closed}
 use Rattle.grammar.proofs.plain.digits.Goals as goal
 
-pub returns-then-digit-gt9 : goal.returns-then-digit-gt9
-returns-then-digit-gt9 c = sofar_closed c.loop-i.invariant (omega arith) (omega arith) c.closed.ensures
+pub returns-then-ends : goal.returns-then-ends
+returns-then-ends c = sofar_closed c.loop-i.invariant (omega arith) (omega arith) c.closed.ensures
 
 pub overflow_mul-value : goal.overflow_mul-value
 overflow_mul-value c = omega (arith, sofar_small c.loop-i.invariant (omega arith))
