@@ -21,7 +21,7 @@ use Rattle.meaning.specs.declared.Entry.TheVariants.{Arc, Point, Site}
 use Rattle.meaning.specs.declared.Read.TheVariants.{Accepted}
 use Rattle.meaning.proofs.Tests.{neither}
 use Rattle.meaning.proofs.Reading.{AllFine, IsOf, AllOf, Distinct, NodeFine, node_fine, entries_of, accepted}
-use Rattle.meaning.proofs.Tables.{was_read}
+use Rattle.meaning.proofs.Accepted.{was_read}
 use Rattle.meaning.proofs.Counting.{count, count_none, count_more, count_full}
 
 -- ---- storing each entry's value at its node

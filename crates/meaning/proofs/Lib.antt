@@ -10,7 +10,7 @@ pub mod Scans
 pub mod Refusals
 pub mod Reading
 pub mod Unique
-pub mod Tables
+pub mod Accepted
 pub mod Coordinates
 pub mod Texts
 -- what a best-first search with a consistent estimate may conclude, over any arcs

@@ -1,6 +1,7 @@
 -- What a search is lent: the tables of a region and the rooms for its answer; and the region that the tables describe.
 use Rattle.std.specs.Prelude.{◌≡◌, Bool, ◌&&◌, List, ℕ, ◌-◌, ◌≤◌, ◌<◌, T, eqb, ℤ, pos, get_or}
 use Rattle.meaning.specs.Scan.{any}
+use Rattle.meaning.specs.declared.Tables.{Tables as LentTables}
 
 -- the lent tables, with the counts N, M and S
 pub record Tables : Type 0 where
@@ -25,6 +26,10 @@ pub record Rooms : Type 0 where
 -- as a contract has them: the lent tables' entries and counts
 abbrev pub tables : List ℕ → List ℕ → List ℕ → List ℤ → List ℤ → List ℕ → ℕ → ℕ → ℕ → Tables
 tables tails heads weights xs ys sites n m s = record { tails = tails; heads = heads; weights = weights; xs = xs; ys = ys; sites = sites; n = n; m = m; s = s }
+
+-- the entries and counts of the tables as the code is lent them
+abbrev pub tables_of : LentTables → Tables
+tables_of t = tables t.tails.now t.heads.now t.weights.now t.xs.now t.ys.now t.sites.now t.n t.m t.s
 
 -- and the lent rooms' entries
 abbrev pub rooms : List ℕ → List ℕ → List ℕ → List ℕ → List ℕ → Rooms

@@ -16,8 +16,12 @@ pub struct Limits {
     pub k: usize,
 }
 
-// The largest N, by which a program measures its own rooms.
+// The largest N, M and S, by which rooms are measured that any region fits.
 pub const NODES_MOST: usize = 1024;
+
+pub const ARCS_MOST: usize = 4096;
+
+pub const SITES_MOST: usize = 128;
 
 // The limits in the code, equal to the definition's.
 pub fn base() -> Limits
@@ -26,8 +30,8 @@ pub fn base() -> Limits
     Limits {
         text: 65536,
         nodes: NODES_MOST,
-        arcs: 4096,
-        sites: 128,
+        arcs: ARCS_MOST,
+        sites: SITES_MOST,
         weight: 1000000,
         coordinate: 200000000,
         k: 32,
@@ -117,6 +121,20 @@ pub enum Line {
     Problem(Counts),
     Data(Entry),
     Malformed,
+}
+
+// The lent tables of a region, with the counts N, M and S.
+#[derive(Clone, Copy)]
+pub struct Tables<'a> {
+    pub tails: &'a [u16],
+    pub heads: &'a [u16],
+    pub weights: &'a [u32],
+    pub xs: &'a [i32],
+    pub ys: &'a [i32],
+    pub sites: &'a [u16],
+    pub n: usize,
+    pub m: usize,
+    pub s: usize,
 }
 
 // What a text is held to: the limits, which text it is, the N handed in (a graph text is handed none) and the room for its data.

@@ -18,7 +18,7 @@ use Rattle.meaning.specs.declared.Read.TheVariants.{Refused, Accepted}
 use Rattle.meaning.proofs.Reading as Known
 use Rattle.meaning.proofs.Alls.{all_zip, all_map}
 use Rattle.meaning.proofs.Reading.{IsOf, NodeFine, accepted, front_sets, arc_fine, node_fine}
-use Rattle.meaning.proofs.Tables.{was_read}
+use Rattle.meaning.proofs.Accepted.{was_read}
 use Rattle.meaning.proofs.Unique.{front_kept, node_kept}
 use Rattle.reading.specs.Rows.{Columns, Rows, RowsRead, second_of, third_of}
 use Rattle.readers.specs.Writing.{stored, in_order, at_node, node_in, value_in, size_in, Below, AllNodes, HasRows, ArcRows, PointRows, SiteRows}
