@@ -22,7 +22,7 @@ use Rattle.straight.specs.Points.{entry, farthest}
 use Rattle.straight.proofs.Laws.{square_small, square_large, squares_small, back, small_back, Square, square_back}
 use Rattle.memory.specs.Memory.{is_taken}
 use Rattle.memory.specs.Aim.{Ground, Aims, Sized, site_in, closer_of, least_to, line_to, far_off, nearer}
-use Rattle.memory.proofs.Aims.{site_below}
+use Rattle.memory.proofs.Columns.{site_below}
 
 -- whether one passes: it did, or none has so far
 module _ (ok : ℕ → Bool) (j : ℕ) where
