@@ -4,8 +4,6 @@ pub mod Holds
 pub mod Lines
 -- what it holds after a write
 pub mod Writes
--- the quarters, set to 0
-mod Cleared
 -- the sites side by side
 pub mod Columns
 -- the scan of the code: the closest site

@@ -4,10 +4,9 @@ ghost use Rattle.meaning.specs.Region.{tables_of};
 ghost use Rattle.memory.specs.Memory.{rival_of, is_taken};
 ghost use Rattle.memory.specs.Aim.{site_in, line_to, SideBySide, NoneTaken, Forgotten, Sized, nearer};
 
+use crate::Region;
 use meaning::SITES_MOST;
 use straight::Line;
-
-use crate::Region;
 
 // Farther off than any node is, and one more than the square of any distance between nodes.
 const FAR: i32 = 1000000000;

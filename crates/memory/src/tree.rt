@@ -3,11 +3,9 @@
 ghost use Rattle.std.specs.Prelude.{◌≡◌, ℕ, ◌+◌, ◌*◌, ◌≤◌, ◌<◌, length};
 ghost use Rattle.memory.specs.Tree.{Tree, But, Bare, Ranked, Topped};
 
-use std::marker::Model;
-
-use meaning::NODES_MOST;
-
 use crate::key;
+use meaning::NODES_MOST;
+use std::marker::Model;
 
 // No key is as large.
 const KEYS: u64 = 17179869184;
