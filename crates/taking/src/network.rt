@@ -19,7 +19,7 @@ pub struct Network<'a> {
 impl Network<'_> {
     // The last arc is linked first.
     pub fn link<'a>(region: Region<'a>) -> Network<'a>
-        ensures { result.region ≡ region }
+        ensures { result.region ≡ region.entry }
     {
         let t = region.tables;
         let mut starts = [0; NODES_MOST];
