@@ -45,7 +45,9 @@ pub fn start(r: &Region, work: &mut [u32], q: usize) -> Guide
 
 // Of two nodes that give h its length the lower one comes before it.
 fn lower(work: &mut [u32], n: usize, u: usize, h: usize)
-    requires { (4 * n ≤ length work.old) × ((n ≤ 1024) × ((u < n) × (h < n))) }
+    requires n_in_bounds { (4 * n ≤ length work.old) × (n ≤ 1024) }
+    requires u_lt_n { u < n }
+    requires h_lt_n { h < n }
     ensures same_keys { SameKeys n work.old work.new }
     ensures arrived { Arrived n u h (get_or work.old h 0) work.old work.new }
 {
@@ -166,6 +168,7 @@ fn fresh(r: &Region, work: &mut [u32], guide: &mut Guide, v: usize) -> bool
     requires untaken { is_taken r.now.tables.n work.old v ≡ false }
     requires guided { Guided (tables_of r.now.tables) work.old guide.old }
     ensures guided_after { Guided (tables_of r.now.tables) work.new guide.new }
+    ensures same_taken { SameTaken r.now.tables.n work.old work.new }
     ensures looked { Looked (tables_of r.now.tables) v work.old work.new result }
 {
     let n = r.tables.n;

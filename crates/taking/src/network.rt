@@ -55,7 +55,8 @@ impl Network<'_> {
     // The node that arc i leads to.
     pub(crate) fn head(&self, i: usize) -> usize
         requires { i < self.now.region.tables.m }
-        ensures { result ≡ (region_of (tables_of self.now.region.tables)).head i }
+        ensures value { result ≡ (region_of (tables_of self.now.region.tables)).head i }
+        ensures below { result < self.now.region.tables.n }
     {
         self.region.tables.heads[i] as usize - 1
     }
