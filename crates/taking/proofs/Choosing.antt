@@ -166,8 +166,5 @@ pub record Keeping (t : Tables) (w₀ w : List ℕ) (guide : Guide) : Type 0 whe
   pub same : SameTaken t.n w₀ w
   pub stays : Stays t w₀ w
 
-pub keep_none : (t : Tables) (w : List ℕ) (guide : Guide) → Guided t w guide → Keeping t w w guide
-keep_none t w guide G = record { size = refl; guided = G; same = λ v l. refl; stays = λ s from rest j m L. L }
-
 pub held : (t : Tables) {w₀ w : List ℕ} {guide : Guide} (A : Aiming t w₀) → Keeping t w₀ w guide → Live t A.state A.from A.rest w
 held t A K = K.stays A.state A.from A.rest A.left A.aims A.live

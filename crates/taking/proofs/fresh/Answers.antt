@@ -16,6 +16,3 @@ returns-clause-guided_after c = record {
   aims = aims_same c.args.r.now.sound.ground c.requires.guided.aims (same (goal.at.returns-clause-guided_after c).After-replay);
   tree = c.replay.ensures;
 }
-
-pub returns-clause-same_taken : goal.returns-clause-same_taken
-returns-clause-same_taken c = same (goal.at.returns-clause-same_taken c).After-replay

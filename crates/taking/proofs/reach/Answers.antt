@@ -5,7 +5,7 @@ use Rattle.taking.proofs.reach.Goals as goal
 
 pub returns-then-old-eq0-clause-guided_after : goal.returns-then-old-eq0-clause-guided_after
 returns-then-old-eq0-clause-guided_after c =
-    let same = opened_taken c.args.r.now.tables.n c.args.u c.args.h c.args.at c.args.work.now c.requires.h_lt_n c.aim-rival.result (omega arith) c.if-old-eq0.true (omega (arith, c.aim-rival.ensures)) in
+    let same = opened_taken c.args.r.now.tables.n c.args.u c.args.h c.args.at c.aim-rival.result c.args.work.now c.requires.h_lt_n (omega arith) c.if-old-eq0.true (omega (arith, c.aim-rival.ensures)) in
     record { aims = aims_same c.args.r.now.sound.ground c.requires.guided.aims same; tree = c.replay.ensures }
 
 pub returns-then-old-eq0-clause-reached : goal.returns-then-old-eq0-clause-reached

@@ -15,7 +15,7 @@ aim-rival-requires-clause-aims c = c.gather-aims.ensures _ (none (goal.at.aim-ri
 
 pub replay-requires-clause-but_for_v : goal.replay-requires-clause-but_for_v
 replay-requires-clause-but_for_v c =
-    start_tree c.args.r.now.tables.n c.args.work.now c.clear.new.work c.requires.0 c.clear.ensures c.args.q 1 c.aim-rival.result c.requires.1
+    start_tree c.args.r.now.tables.n c.args.work.now c.clear.new.work c.requires.0 c.clear.ensures c.args.q _ c.aim-rival.result c.requires.1
     (c.new-tree.ensures _ c.args.r.now.sound.few_nodes)
 
 pub returns-clause-guided : goal.returns-clause-guided
@@ -25,7 +25,7 @@ returns-clause-guided c =
     let room = c.clear.auto.work in
     record {
       aims = aims_same {w = c.clear.new.work} c.args.r.now.sound.ground (c.gather-aims.ensures _ bare)
-          (open_taken n c.args.q 1 c.aim-rival.result c.clear.new.work c.requires.1 (omega arith) (bare c.args.q c.requires.1) (omega (arith, c.aim-rival.ensures)));
+          (open_taken n c.args.q _ c.aim-rival.result c.clear.new.work c.requires.1 (omega arith) (bare c.args.q c.requires.1) (omega (arith, c.aim-rival.ensures)));
       tree = c.replay.ensures;
     }
 
