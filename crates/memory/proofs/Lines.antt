@@ -8,7 +8,6 @@ use native.Mathlib.Decide.{dec_lt}
 use native.Mathlib.Omega.{arith}
 use borrow.Author.Tests.{lt-ltb, le-ltb, ltb-true, ltb-false}
 use lib.Dec.{eqb, eqb_refl, eqb-suc-zero, ltb}
-use lib.ListN.{get_or}
 use Rattle.meaning.specs.Region.{Tables, Region, region_of, is_site, x_at, y_at}
 use Rattle.meaning.specs.Scan.{better, first}
 use Rattle.meaning.specs.Straight.{root, root_to, squares, straight}

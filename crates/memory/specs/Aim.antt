@@ -1,6 +1,6 @@
 -- The estimate, from the memory: of the squared distances to the sites that aren't taken the least is
 -- kept, and one root is taken.
-use Rattle.std.specs.Prelude.{Bool, false, cond, ◌&&◌, List, ◌≡◌, ℕ, zero, suc, ◌+◌, ◌-◌, ◌*◌, ◌≤◌, ◌<◌, eqb, ltb, ℤ, pos, nat_abs, length, get_or}
+use Rattle.std.specs.Prelude.{Bool, false, cond, List, ◌≡◌, ℕ, zero, suc, ◌+◌, ◌-◌, ◌*◌, ◌≤◌, ◌<◌, eqb, ltb, ℤ, pos, nat_abs, length, get_or}
 use Rattle.meaning.specs.Region.{Tables, x_at, y_at}
 use Rattle.meaning.specs.Scan.{any}
 use Rattle.meaning.specs.Straight.{gap, root, squares}

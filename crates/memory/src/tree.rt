@@ -21,7 +21,7 @@ fn rank(work: &[u32], n: usize, v: usize) -> u64
     if work[n + v] == 0 {
         return 0;
     }
-    (KEYS - key(work, n, v)) * NUMBERS + (65535 - v as u64)
+    (KEYS - key(work, n, v)) * NUMBERS + (NUMBERS - 1 - v as u64)
 }
 
 // The ranks of the open nodes, each at its leaf, and above them the larger of each two.
@@ -57,7 +57,7 @@ impl Winners {
         if top == 0 {
             return None;
         }
-        Some(65535 - (top % NUMBERS) as usize)
+        Some((NUMBERS - 1 - top % NUMBERS) as usize)
     }
 
     // The leaf of node v, whose entries were written, and the places above it are settled anew, as

@@ -13,7 +13,7 @@ loop-j-init c = (refl, omega arith)
 pub loop-j-preserved : goal.loop-j-preserved
 loop-j-preserved c =
     let l = c.loop-j in
-    least_next c.args.r.now.sound.ground c.requires.aims c.args.v l.j c.requires.n_in_bounds.1 c.loop-j-test.true l.invariant.0 l.invariant.1
+    least_next c.args.r.now.sound.ground c.requires.aims c.args.v l.j c.requires.v_in_bounds c.loop-j-test.true l.invariant.0 l.invariant.1
     c.closer-best.ensures
 
 pub returns-then-best-eq-BEYOND : goal.returns-then-best-eq-BEYOND
