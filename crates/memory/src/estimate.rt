@@ -8,9 +8,10 @@ use crate::Region;
 use meaning::SITES_MOST;
 use straight::Line;
 
-// Farther off than any node is, and one more than the square of any distance between nodes.
+// Where a taken site is put: farther off than any node is.
 const FAR: i32 = 1000000000;
 
+// One more than the square of any distance between nodes.
 const BEYOND: u64 = 320000000000000001;
 
 // The sites' coordinates side by side; a taken site is put far off.
@@ -101,8 +102,9 @@ fn rival(line: Line, site: bool) -> u32
     if site { twice + 2 } else { twice + 1 }
 }
 
-// What is held of node v while it is open. A site that isn't taken is at no distance from itself, so
-// only a node at distance 0 is looked for among the sites. Of the memory only the contract speaks.
+// What is held of node v while it is open. A site that isn't taken is at no distance from itself,
+// so only a node at distance 0 is looked for among the sites. Of the memory only the contract
+// speaks.
 pub fn aim(r: &Region, work: &[u32], aims: &Aims, v: usize) -> u32
     requires n_in_bounds { (4 * r.now.tables.n ≤ length work.now) × (v < r.now.tables.n) }
     requires untaken { is_taken r.now.tables.n work.now v ≡ false }

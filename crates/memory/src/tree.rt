@@ -1,5 +1,5 @@
-// The open nodes in a winner tree (specs/Tree), beside the work memory: the one that goes next stands
-// at its top, and a node whose entries were written is played again on its way there.
+// The open nodes in a winner tree (specs/Tree), beside the work memory: the one that goes next
+// stands at its top, and a node whose entries were written is played again on its way there.
 ghost use Rattle.std.specs.Prelude.{◌≡◌, ℕ, ◌+◌, ◌*◌, ◌≤◌, ◌<◌, length};
 ghost use Rattle.memory.specs.Tree.{Tree, But, Bare, Ranked, Topped};
 
@@ -70,7 +70,7 @@ impl Winners {
         let mut i = n + v;
         self.ranks[i] = rank(work, n, v);
         while 1 < i {
-            i = i / 2;
+            i /= 2;
             let best = self.ranks[i + i].max(self.ranks[i + i + 1]);
             if self.ranks[i] == best {
                 return;
