@@ -18,7 +18,7 @@ use Rattle.meaning.proofs.Bools.{T_true}
 use Rattle.meaning.proofs.Roots.{root_floor, sq_lt_inv}
 use Rattle.meaning.proofs.Scans.{any_of}
 use Rattle.memory.specs.Memory.{Holds, is_taken}
-use Rattle.memory.specs.Aim.{Ground, closer_of, least_to, line_to}
+use Rattle.memory.specs.Aim.{Ground, node_of, closer_of, least_to, line_to}
 use Rattle.memory.proofs.Holds.{taken_is}
 
 root_mono : (a b : ℕ) → a ≤ b → root a ≤ root b
@@ -58,19 +58,16 @@ site_aimed : (R : Region) (s : State) (j : ℕ) → j < R.s → aimed R s (R.sit
 unfolding aimed is_site
 site_aimed R s j l = rw (T_true (is_site R (R.site j)) (any_of (λ i. eqb (R.site i) (R.site j)) R.s j l (eqb_refl (R.site j))))
 
-module _ (t : Tables) {line : ℕ → ℕ} {s : State} {from rest w : List ℕ} (G : Ground t.xs t.ys t.sites t.n t.s)
+module _ (t : Tables) {line : ℕ → ℕ} {s : State} {from rest w : List ℕ} (G : Ground t)
     (H : Holds t.n (is_site (region_of t)) line s from rest w) (v : ℕ) where
-  abbrev node : ℕ → ℕ
-  node j = get_or t.sites j 0 - 1
-
   abbrev line_of : ℕ → ℕ
-  line_of j = straight (x_at t) (y_at t) v (node j)
+  line_of j = straight (x_at t) (y_at t) v (node_of t j)
 
   abbrev closest : ℕ → Option ℕ
-  closest j = first (λ i. aimed (region_of t) s (node i)) line_of j
+  closest j = first (λ i. aimed (region_of t) s (node_of t i)) line_of j
 
   abbrev least : ℕ → ℕ
-  least j = least_to t.xs t.ys t.sites t.n w v j
+  least j = least_to t w v j
 
   found : (j : ℕ) → j ≤ t.s → Beside line_of (closest j) (least j)
   unfolding first least_to straight
@@ -78,10 +75,10 @@ module _ (t : Tables) {line : ℕ → ℕ} {s : State} {from rest w : List ℕ} 
   found (suc j) l =
       let a = G.low j (omega arith) in
       let b = G.high j (omega arith) in
-      rw (site_aimed (region_of t) s j (omega arith), ← (taken_is H (node j) (omega arith)))
-      (beside_next line_of j (squares (x_at t) (y_at t) v (node j)) refl (is_taken t.n w (node j)) (closest j) (least j) (found j (omega arith)))
+      rw (site_aimed (region_of t) s j (omega arith), ← (taken_is H (node_of t j) (omega arith)))
+      (beside_next line_of j (squares (x_at t) (y_at t) v (node_of t j)) refl (is_taken t.n w (node_of t j)) (closest j) (least j) (found j (omega arith)))
 
-  pub line_is : line_to t.xs t.ys t.sites t.n t.s w v ≡ aim_of t (aimed (region_of t) s) v
+  pub line_is : line_to t w v ≡ aim_of t (aimed (region_of t) s) v
   unfolding line_to to_sites least_at root root_to
   line_is = go (closest t.s) (least t.s) (found t.s (omega arith))
     where
