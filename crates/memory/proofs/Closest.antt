@@ -1,7 +1,7 @@
 -- The sites one by one: whether a node is one, and the closest that isn't taken.
 use mathlib.Core.Bool.{Bool, true, false, cond}
 use mathlib.Core.List.{List}
-use mathlib.Core.Path.{◌≡◌, refl, sym, ap₂, ◌∙◌}
+use mathlib.Core.Path.{◌≡◌, refl, sym, ap, ap₂, ◌∙◌}
 use Prim.Native.Nat.{ℕ, zero, suc, ◌+◌, ◌-◌, ◌*◌, ◌≤◌, ◌<◌}
 use native.Mathlib.Decide.{dec_lt, ℕ_discrete}
 use native.Mathlib.Numerals.{add-one}
@@ -18,7 +18,7 @@ use Rattle.meaning.specs.Straight.{gap, root, root_to, squares}
 use Rattle.meaning.proofs.Estimates.{gap_self}
 use Rattle.meaning.proofs.Scans.{any_is}
 use Rattle.straight.specs.Points.{farthest}
-use Rattle.straight.proofs.Laws.{square_small, square_large, squares_small, back, back_near, Square, square_back}
+use Rattle.straight.proofs.Laws.{root_small, square_small, square_large, squares_small, back, back_near, Square, square_back}
 use Rattle.memory.specs.Memory.{is_taken}
 use Rattle.memory.specs.Aim.{Ground, SideBySide, Sized, node_of, site_in, closer_of, least_to, line_to, far_off, nearer}
 use Rattle.memory.proofs.Columns.{site_below}
@@ -142,9 +142,13 @@ unfolding root root_to
 line_none best zero e l f = refl
 line_none best (suc b) e l f = let h = square_suc b in absurd (omega arith)
 
-pub line_found : (best least : ℕ) → best ≡ square_of least → least ≤ suc farthest → (best ≡ suc farthest → ⊥) → (best ≡ least - 1) × (best ≤ farthest)
-line_found best zero e l z = absurd (z e)
-line_found best (suc b) e l z = let h = square_suc b in omega arith
+pub line_found : {best r : ℕ} (least : ℕ) → best ≡ square_of least → least ≤ suc farthest → (best ≡ suc farthest → ⊥) → r ≡ root best
+    → (r ≡ root (least - 1)) × (r ≤ 1000000000)
+line_found zero e l z f = absurd (z e)
+line_found {best} {r} (suc b) e l z f =
+    let h = square_suc b in
+    let i : best ≡ suc b - 1 = omega arith in
+    (f ∙ ap root i, rw f (root_small best (omega arith)))
 
 -- ---- a site's own line
 
