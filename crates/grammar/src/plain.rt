@@ -30,10 +30,11 @@ fn digits(text: &[u8], at: usize, end: u8) -> Option<Field<usize>>
     let most = text.len().min(at + 10);
     let mut value = 0;
     for i in at..most {
-        let digit = text[i].wrapping_sub(b'0');
+        let byte = text[i];
+        let digit = byte.wrapping_sub(b'0');
         let ends = 9 < digit;
         if ends {
-            if text[i] != end || i == at {
+            if byte != end || i == at {
                 return None;
             }
             return Some(Field { value, next: i + 1 });
