@@ -256,8 +256,9 @@ impl Reader {
         let counts = self.counts.ok_or(Fault::ProblemMisplaced)?;
         data_fault(self.rules.limits, counts, self.count, e)?;
         let k = node_of(e) - 1;
-        let twice = only_once(e, self.marks.contains(k));
-        test(!twice, Fault::GivenTwice)?;
+        if only_once(e, self.marks.contains(k)) {
+            return Err(Fault::GivenTwice);
+        }
         self.marks.insert(k);
         rows[self.count] = row_of(e);
         self.count += 1;
