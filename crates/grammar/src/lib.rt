@@ -2,10 +2,10 @@
 #![tactic(auto)]
 
 ghost use Rattle.std.specs.Prelude.{◌≡◌, true, false, MatchOption};
-ghost use Rattle.meaning.specs.Text.{fields, first, others, none, same as same_bytes};
+ghost use Rattle.meaning.specs.Text.{fields, first, others};
 ghost use Rattle.meaning.specs.Grammar.{aux_count, problem_of, data_of, line_of, word_a, word_v, word_s};
 ghost use Rattle.meaning.specs.declared.Kind.TheVariants.{Graph, Coordinates, Sites};
-ghost use Rattle.grammar.specs.Fields.{problem_line, data_line};
+ghost use Rattle.grammar.specs.Fields.{IsNext, IsLast, problem_line, data_line};
 
 use meaning::{Counts, Entry, Kind, Line};
 pub use plain::{Plain, plain_at};
@@ -14,24 +14,18 @@ mod plain;
 
 // What follows the word w, if that is the next field.
 fn past<'a>(rest: &'a [u8], w: &[u8]) -> Option<&'a [u8]>
-    ensures { MatchOption result (same_bytes (first (fields rest.now)) w.now ≡ false) (λ r. (same_bytes (first (fields rest.now)) w.now ≡ true) × (fields r.now ≡ others (fields rest.now))) }
+    ensures { MatchOption result (IsNext w.now rest.now false)
+        (λ r. IsNext w.now rest.now true × (fields r.now ≡ others (fields rest.now))) }
 {
-    if text::same(text::word(rest), w) {
-        Some(text::after(rest))
-    } else {
-        None
-    }
+    text::same(text::word(rest), w).then(|| text::after(rest))
 }
 
 // The next field, if no field is after it.
 fn last(rest: &[u8]) -> Option<&[u8]>
-    ensures { MatchOption result (none (others (fields rest.now)) ≡ false) (λ f. (none (others (fields rest.now)) ≡ true) × (f.now ≡ first (fields rest.now))) }
+    ensures { MatchOption result (IsLast rest.now false)
+        (λ f. IsLast rest.now true × (f.now ≡ first (fields rest.now))) }
 {
-    if text::ended(text::after(rest)) {
-        Some(text::word(rest))
-    } else {
-        None
-    }
+    text::ended(text::after(rest)).then(|| text::word(rest))
 }
 
 // aux, sp and a third word, then one number and no more.

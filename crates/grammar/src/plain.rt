@@ -30,10 +30,11 @@ fn digits(text: &[u8], at: usize, end: u8) -> Option<Field<usize>>
     let most = text.len().min(at + 10);
     let mut value = 0;
     for i in at..most {
-        let digit = text[i].wrapping_sub(b'0');
+        let byte = text[i];
+        let digit = byte.wrapping_sub(b'0');
         let ends = 9 < digit;
         if ends {
-            if text[i] != end || i == at {
+            if byte != end || i == at {
                 return None;
             }
             return Some(Field { value, next: i + 1 });
@@ -49,7 +50,7 @@ fn coordinate(text: &[u8], at: usize, end: u8) -> Option<Field<i32>>
     requires { at ≤ length text.now }
     ensures { IfSome result (λ f. CoordinateSaid text.now at end f.value f.next) }
 {
-    if at < text.len() && text[at] == b'-' {
+    if let [b'-', ..] = &text[at..] {
         let size = digits(text, at + 1, end)?;
         return Some(Field {
             value: -(size.value as i32),
@@ -69,10 +70,9 @@ fn numbers(text: &[u8], at: usize, w: u8) -> Option<usize>
     requires { at ≤ length text.now }
     ensures { IfSome result (Starts text.now at w) }
 {
-    if text.len() - at >= 2 && text[at] == w && text[at + 1] == b' ' {
-        Some(at + 2)
-    } else {
-        None
+    match &text[at..] {
+        [first, b' ', ..] if *first == w => Some(at + 2),
+        _ => None,
     }
 }
 

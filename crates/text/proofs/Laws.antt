@@ -1,11 +1,10 @@
 -- Laws of lines, fields and numbers, in the steps in which the code walks over the bytes.
-use Rattle.std.proofs.Common.{◌≡◌, ℕ, zero, suc, ◌^◌, ◌+◌, ◌-◌, ◌*◌, ◌≤◌, ◌<◌, Bool, true, false, cond, ◌&&◌, ltb, leb, eqb, List, [], ◌∷◌, length, get_or, take, drop, refl, ap, sym, ◌∙◌, arith, add-one, length-drop, drop-cons, ne_eqb, le-leb, one-add, Option, Some, None, IfSome}
+use Rattle.std.proofs.Common.{◌≡◌, ℕ, suc, ◌+◌, ◌-◌, ◌≤◌, ◌<◌, Bool, true, false, cond, ltb, eqb, List, [], ◌∷◌, length, get_or, take, drop, refl, ap, sym, ◌∙◌, arith, length-drop, ne_eqb, le-leb, one-add}
 use lib.Seq.{drop-drop, take_all}
 use borrow.Author.Tests.{lt-ltb}
-use native.Mathlib.Nat.{pow-le-pow_right, pow-suc}
 use Rattle.std.specs.List.{list_all}
 use Rattle.std.proofs.lemmas.List.Sums.{prefix_len-le-length}
-use Rattle.meaning.specs.Text.{trim, signed, is_digit, number, lines, joined, fields, is_blank, first, others, none, digits}
+use Rattle.meaning.specs.Text.{trim, number, lines, joined, fields, is_blank, first, others, none, digits}
 use Rattle.text.specs.Scan.{run, is_ink, in_line}
 
 -- a part from a start to the end

@@ -16,9 +16,11 @@ abbrev pub past_of : Option Piece → ℕ → ℕ
 past_of (Some p) at = p.next
 past_of None at = at
 
--- a reader stays on its text, and goes on past the line that it gave
+-- the reader on the same text, at another position
 abbrev pub moved_to : Lines → ℕ → Lines
 moved_to r at = record { text = r.text; at = at }
 
-abbrev pub Moved : Lines → Option Piece → Lines → Type 0
-Moved before piece after = after ≡ moved_to before (past_of piece before.at)
+-- a reader gives the line at its position, and goes on past it
+abbrev pub GivesLine : Lines → Option Piece → Lines → Type 0
+GivesLine before piece after =
+    (piece ≡ piece_at before.text.now before.at) × (after ≡ moved_to before (past_of piece before.at))

@@ -3,9 +3,10 @@
 
 ghost use Rattle.std.specs.Prelude.{◌≡◌, ◌-◌, ◌<◌, length, IfSome};
 ghost use Rattle.std.specs.Iterator.{at_most};
-ghost use Rattle.meaning.specs.Text.{trim, is_blank, fields, first, others, none, same as same_bytes, number as number_of, signed as signed_of};
+ghost use Rattle.meaning.specs.Text.{trim, is_blank, fields, first, others, none};
+ghost use Rattle.meaning.specs.Text.{same as same_bytes, number as number_of, signed as signed_of};
 ghost use Rattle.text.specs.Scan.{run, in_line, is_ink};
-ghost use Rattle.text.specs.Read.{piece_at, Moved};
+ghost use Rattle.text.specs.Read.{piece_at, GivesLine};
 
 // A line of a text: where it starts, its length, and where the next starts.
 #[derive(Clone, Copy)]
@@ -56,7 +57,7 @@ impl<'a> Lines<'a> {
 impl<'a> Iterator for Lines<'a> {
     type Item = Piece;
 
-    ghost next_gives = { λ before piece after. (piece ≡ piece_at before.text.now before.at) × Moved before piece after };
+    ghost next_gives = { GivesLine };
 
     ghost remaining = { λ s. at_most (length s.text.now - s.at) };
 
@@ -107,7 +108,8 @@ fn inks(rest: &[u8]) -> usize
 
 // The next field of the rest of a line, and what follows it.
 fn parted(rest: &[u8]) -> (&[u8], &[u8])
-    ensures { (result.0.now ≡ first (fields rest.now)) × (fields result.1.now ≡ others (fields rest.now)) }
+    ensures word { result.0.now ≡ first (fields rest.now) }
+    ensures after { fields result.1.now ≡ others (fields rest.now) }
 {
     let lead = &rest[blanks(rest)..];
     lead.split_at(inks(lead))
