@@ -131,10 +131,10 @@ passes (Ok tt) m v e = refl
 passes (Err fault) m v e = let z : false ≡ true = sym v ∙ ap is_ok e in absurd (not_both z)
 
 pub fails : (r : Test) (m : Result (Unit {0}) Refusal) (Post : Fault → Refusal → Type 0)
-    → MatchResult r (λ x. m ≡ Ok x) (λ e. IsErrAnd m (Post e)) → (refused : Refusal) → m ≡ Err refused
-    → (fault : Fault) × (r ≡ Err fault) × Post fault refused
-fails (Ok tt) m Post h refused e = absurd (not_fine refused (sym e ∙ h))
-fails (Err fault) m Post h refused e = (fault, refl, rw e at h)
+    → MatchResult r (λ x. m ≡ Ok x) (λ e. IsErrAnd m (Post e)) → (y : Refusal) → m ≡ Err y
+    → (fault : Fault) × (r ≡ Err fault) × Post fault y
+fails (Ok tt) m Post h y e = absurd (not_fine y (sym e ∙ h))
+fails (Err fault) m Post h y e = (fault, refl, rw e at h)
 
 -- the code refuses with the rules, or goes on with them
 stopped : (R : Rules) (at : ℕ) (r : Test) (s : Reader) (rows : List Row) (fault : Fault) → r ≡ Err fault → (x : Next) → Follows R at r s rows x → x ≡ stop fault

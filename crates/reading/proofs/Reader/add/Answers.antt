@@ -1,4 +1,4 @@
-use Rattle.std.proofs.Common.{◌≡◌, Some, true, false, arith, sym, ap, ◌∙◌}
+use Rattle.std.proofs.Common.{◌≡◌, Some, Err, true, false, arith, sym, ap, ◌∙◌}
 use Rattle.std.proofs.lemmas.Result.{err_from_is_err_and}
 use Rattle.meaning.specs.Files.{node_of}
 use Rattle.reading.specs.Marks.{is_marked}
@@ -19,7 +19,7 @@ pub returns-in_err-data_fault : goal.returns-in_err-data_fault
 returns-in_err-data_fault c =
     let counts : c.args.self.now.counts ≡ Some c.in_ok-counts.counts = grind arith in
     let p = err_from_is_err_and c.from_residual-in_err-data_fault.result c.from_residual-in_err-data_fault.ensures.1 in
-    data_refused c.args.self.now c.args.rows.now c.args.e c.in_ok-counts.counts counts p.0 (sym c.data_fault.ensures ∙ c.in_err-data_fault.was ∙ ?)
+    data_refused c.args.self.now c.args.rows.now c.args.e c.in_ok-counts.counts counts p.0 (sym c.data_fault.ensures ∙ c.in_err-data_fault.was ∙ ap Err (sym p.2))
     c.from_residual-in_err-data_fault.result p.1 _ _
 
 pub overflow_sub-k : goal.overflow_sub-k
