@@ -1,46 +1,25 @@
-// Runs the readers on the cases of its standard input, and prints what each answers and a digest of each table that it was lent.
+// Runs the readers on the cases of its standard input, and prints what each answers and a digest of
+// each table that it was lent.
 // A write that fails ends the program with that error.
 #![tactic(auto)]
 
-ghost use Rattle.std.specs.Prelude.{◌≤◌, ◌<◌};
-
-use meaning::{Number, Read};
+use meaning::{ARCS_MOST, Counts, NODES_MOST, Refusal, SITES_MOST};
 use std::io;
 
-fn least(a: usize, b: usize) -> usize
-    ensures { (result ≤ a) × (result ≤ b) }
-{
-    if a <= b { a } else { b }
-}
+// Room for a case's text and the end of its line.
+const ROOM: usize = 65600;
 
 // A number of a case's first line.
-fn size(f: &[u8]) -> usize {
-    match text::number(f) {
-        Number::Value(v) => v,
-        Number::NoNumber => 0,
-    }
+fn size(field: &[u8]) -> usize {
+    text::number(field).unwrap_or(0)
 }
 
-fn gap(rt: &impl Print) -> io::Result<()> {
-    rt.print(" ")
-}
-
-fn show(rt: &impl Print, a: usize) -> io::Result<()> {
-    gap(rt)?;
-    rt.print(a)
-}
-
-fn answer(rt: &impl Print, r: Read) -> io::Result<()> {
-    match r {
-        Read::Refused { number, place } => {
-            rt.print("x")?;
-            show(rt, number)?;
-            show(rt, place)
-        }
-        Read::Accepted { nodes, rows } => {
-            rt.print("=")?;
-            show(rt, nodes)?;
-            show(rt, rows)
+fn tell(rt: &impl Print, answer: Result<Counts, Refusal>) -> io::Result<()> {
+    match answer {
+        Ok(Counts { nodes, rows }) => print!(rt; "= {nodes} {rows}"),
+        Err(Refusal { fault, place }) => {
+            let number = usize::from(fault);
+            print!(rt; "x {number} {place}")
         }
     }
 }
@@ -50,155 +29,77 @@ fn mixed(sum: u64, value: u64) -> u64 {
     (sum % 1000003 * 31 + value % 1000003) % 1000003
 }
 
-fn wide(x: u16) -> u64 {
-    x as u64
-}
-
-fn wider(x: u32) -> u64 {
-    x as u64
-}
-
 // A coordinate's size, and more where it lies below 0.
 fn lifted(z: i32) -> u64 {
-    let size = (reading::size(z) % 4294967296) as u64;
+    let size = u64::from(z.unsigned_abs());
     if z < 0 { size + 500000000 } else { size }
 }
 
-fn digest(rt: &impl Print, t: &[u16]) -> io::Result<()> {
-    let mut sum = 0;
-    let mut i = 0;
-    while i < t.len() {
-        sum = mixed(sum, wide(t[i]));
-        i += 1;
-    }
-    gap(rt)?;
-    rt.print(sum)
-}
-
-fn digest_wide(rt: &impl Print, t: &[u32]) -> io::Result<()> {
-    let mut sum = 0;
-    let mut i = 0;
-    while i < t.len() {
-        sum = mixed(sum, wider(t[i]));
-        i += 1;
-    }
-    gap(rt)?;
-    rt.print(sum)
-}
-
-fn digest_signed(rt: &impl Print, t: &[i32]) -> io::Result<()> {
-    let mut sum = 0;
-    let mut i = 0;
-    while i < t.len() {
-        sum = mixed(sum, lifted(t[i]));
-        i += 1;
-    }
-    gap(rt)?;
-    rt.print(sum)
-}
-
-fn graph_in(
-    rt: &impl Print,
-    s: &[u8],
-    tails: &mut [u16],
-    heads: &mut [u16],
-    weights: &mut [u32],
-) -> io::Result<()> {
-    answer(rt, readers::read_graph(s, tails, heads, weights))?;
-    digest(rt, tails)?;
-    digest(rt, heads)?;
-    digest_wide(rt, weights)
-}
-
-fn graph(rt: &impl Print, s: &[u8], room: usize, last: usize) -> io::Result<()>
-    requires { (room ≤ 4096) × (last ≤ 4096) }
+fn digest<T: Copy, F: Fn(T) -> u64>(rt: &impl Print, table: &[T], value: F) -> io::Result<()>
+    requires { F.IsAlwaysCallable value }
 {
-    let mut tails = [7u16; 4096];
-    let mut heads = [7u16; 4096];
-    let mut weights = [7u32; 4096];
-    graph_in(
-        rt,
-        s,
-        &mut tails[..room],
-        &mut heads[..room],
-        &mut weights[..last],
-    )
+    let sum = table.iter().fold(0, |sum, &x| mixed(sum, value(x)));
+    print!(rt; " {sum}")
 }
 
-fn coordinates_in(
-    rt: &impl Print,
-    s: &[u8],
-    nodes: usize,
-    xs: &mut [i32],
-    ys: &mut [i32],
-) -> io::Result<()> {
-    answer(rt, readers::read_coordinates(s, nodes, xs, ys))?;
-    digest_signed(rt, xs)?;
-    digest_signed(rt, ys)
+fn graph(rt: &impl Print, text: &[u8], room: usize, last: usize) -> io::Result<()> {
+    let mut tails = [7u16; ARCS_MOST];
+    let mut heads = [7u16; ARCS_MOST];
+    let mut weights = [7u32; ARCS_MOST];
+    let tails = &mut tails[..room.min(ARCS_MOST)];
+    let heads = &mut heads[..room.min(ARCS_MOST)];
+    let weights = &mut weights[..last.min(ARCS_MOST)];
+    tell(rt, readers::read_graph(text, tails, heads, weights))?;
+    digest(rt, tails, u64::from)?;
+    digest(rt, heads, u64::from)?;
+    digest(rt, weights, u64::from)
 }
 
-fn coordinates(rt: &impl Print, s: &[u8], nodes: usize, room: usize) -> io::Result<()>
-    requires { room ≤ 1024 }
-{
-    let mut xs = [7i32; 1024];
-    let mut ys = [7i32; 1024];
-    coordinates_in(rt, s, nodes, &mut xs[..room], &mut ys[..room])
+fn coordinates(rt: &impl Print, text: &[u8], nodes: usize, room: usize) -> io::Result<()> {
+    let mut xs = [7i32; NODES_MOST];
+    let mut ys = [7i32; NODES_MOST];
+    let xs = &mut xs[..room.min(NODES_MOST)];
+    let ys = &mut ys[..room.min(NODES_MOST)];
+    tell(rt, readers::read_coordinates(text, nodes, xs, ys))?;
+    digest(rt, xs, lifted)?;
+    digest(rt, ys, lifted)
 }
 
-fn sites_in(rt: &impl Print, s: &[u8], nodes: usize, list: &mut [u16]) -> io::Result<()> {
-    answer(rt, readers::read_sites(s, nodes, list))?;
-    digest(rt, list)
+fn sites(rt: &impl Print, text: &[u8], nodes: usize, room: usize) -> io::Result<()> {
+    let mut sites = [7u16; SITES_MOST];
+    let sites = &mut sites[..room.min(SITES_MOST)];
+    tell(rt, readers::read_sites(text, nodes, sites))?;
+    digest(rt, sites, u64::from)
 }
 
-fn sites(rt: &impl Print, s: &[u8], nodes: usize, room: usize) -> io::Result<()>
-    requires { room ≤ 128 }
-{
-    let mut list = [7u16; 128];
-    sites_in(rt, s, nodes, &mut list[..room])
-}
-
-fn run(rt: &impl Print, kind: u8, s: &[u8], nodes: usize, room: usize) -> io::Result<()> {
-    if kind == 103 {
-        graph(rt, s, least(room, 4096), least(nodes, 4096))?;
-    } else {
-        if kind == 99 {
-            coordinates(rt, s, nodes, least(room, 1024))?;
-        } else {
-            sites(rt, s, nodes, least(room, 128))?;
-        }
-    }
-    rt.print("\n")
-}
-
-// One case, by way of the buffer s; false where the input has ended.
+// One case, by way of the buffer; false where the input has ended.
 // A read that fails ends the input.
-fn case<I: io::Read>(rt: &impl Print, input: &mut I, s: &mut [u8]) -> io::Result<bool> {
+fn next_case(rt: &impl Print, input: &mut impl io::Read, buffer: &mut [u8; ROOM]) -> io::Result<bool> {
     let mut first = [0u8; 20];
-    if s.len() < 1 {
-        return Ok(false);
-    }
-    let most = s.len() - 1;
     if input.read_exact(&mut first).is_err() {
         return Ok(false);
     }
     let nodes = size(&first[2..7]);
     let room = size(&first[8..13]);
-    let len = least(size(&first[14..19]), most);
+    let len = size(&first[14..19]).min(ROOM - 1);
     // A text that ends early stands in front of what the buffer held before.
-    let _ = input.read_exact(&mut s[..len + 1]);
-    run(rt, first[0], &s[..len], nodes, room)?;
+    let _ = input.read_exact(&mut buffer[..len + 1]);
+    let text = &buffer[..len];
+    match first[0] {
+        b'g' => graph(rt, text, room, nodes)?,
+        b'c' => coordinates(rt, text, nodes, room)?,
+        _ => sites(rt, text, nodes, room)?,
+    }
+    println!(rt)?;
     Ok(true)
 }
 
 fn main(rt: HostRuntime) -> io::Result<()> {
     let mut input = rt.stdin();
-    let mut s = [0u8; 65600];
-    let mut left: usize = 5000;
-    while 0 < left {
-        if case(&rt, &mut input, &mut s)? {
-            left -= 1;
-        } else {
-            return Ok(());
+    let mut buffer = [0u8; ROOM];
+    for _ in 0..5000 {
+        if !next_case(&rt, &mut input, &mut buffer)? {
+            break;
         }
     }
     Ok(())

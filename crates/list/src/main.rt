@@ -1,9 +1,8 @@
-// The list program: reads map.gr, map.co, sites.ss and ask.ss in the folder that it is run in, and prints the list of each query. With an argument it tells
-// a refusal in words too.
+// The list program: reads map.gr, map.co, sites.ss and ask.ss in the folder that it is run in, and
+// prints the list of each query. With an argument it tells a refusal in words too.
 #![tactic(auto)]
 
-ghost use Rattle.std.specs.Prelude.{◌≤◌, length};
-
+use pack::TEXT_ROOM;
 use std::env::FillError;
 use std::rt::{Env, Files};
 use std::{fs, io};
@@ -14,19 +13,15 @@ fn has_ended(file: &mut impl io::Read) -> bool {
     matches!(file.read(&mut more), Ok(0))
 }
 
-// The file's bytes, as many as fit: one more than a text may have, so that a longer one is refused and not cut.
+// The file's bytes, as many as fit.
 // A file that can't be opened or read counts as an empty text.
-fn load(rt: &impl Files, name: &str, text: &mut [u8]) -> usize
-    ensures { result ≤ length text.new }
-{
-    match fs::open(rt, name) {
-        Ok(mut file) => {
-            let got = pack::read_full(&mut file, text);
-            let whole = got == text.len() || has_ended(&mut file);
-            if whole { got } else { 0 }
-        }
-        Err(_) => 0,
-    }
+fn load<'t>(rt: &impl Files, name: &str, text: &'t mut [u8]) -> &'t [u8] {
+    let Ok(mut file) = fs::open(rt, name) else {
+        return &[];
+    };
+    let got = pack::read_full(&mut file, text);
+    let whole = got == text.len() || has_ended(&mut file);
+    if whole { &text[..got] } else { &[] }
 }
 
 // Whether the program has an argument behind its name. What it says doesn't count.
@@ -36,20 +31,16 @@ fn has_argument(rt: &impl Env) -> bool {
 }
 
 fn main(rt: HostRuntime) -> io::Result<()> {
-    let mut graph = [0u8; 65537];
-    let mut points = [0u8; 65537];
-    let mut stands = [0u8; 65537];
-    let mut ask = [0u8; 65537];
-    let a = load(&rt, "map.gr", &mut graph);
-    let b = load(&rt, "map.co", &mut points);
-    let c = load(&rt, "sites.ss", &mut stands);
-    let d = load(&rt, "ask.ss", &mut ask);
+    let mut graph = [0u8; TEXT_ROOM];
+    let mut points = [0u8; TEXT_ROOM];
+    let mut stands = [0u8; TEXT_ROOM];
+    let mut ask = [0u8; TEXT_ROOM];
     pack::print(
         &rt,
-        &graph[..a],
-        &points[..b],
-        &stands[..c],
-        &ask[..d],
+        load(&rt, "map.gr", &mut graph),
+        load(&rt, "map.co", &mut points),
+        load(&rt, "sites.ss", &mut stands),
+        load(&rt, "ask.ss", &mut ask),
         has_argument(&rt),
     )
 }

@@ -1,3 +1,2 @@
--- What the proofs of several functions use: the parts of an answer, and the stretch as a span.
-mod Codes
+-- What the proofs of several functions use: the stretch as a span.
 mod Spans

@@ -1,47 +1,50 @@
-// The library's calls for a panel in C, C++ or Rust, over plain numbers and slices. A slice is a pointer and a number of entries there.
-// An answer comes back by value, as one number (include/wickswarm.h takes it apart), so that a refused call writes nothing at all.
+// The library's calls for a panel in C, C++ or Rust, over plain numbers and slices. A slice is a
+// pointer and a number of entries there, so the tables and rooms come one by one.
+// An answer comes back by value, as one number (include/wickswarm.h takes it apart), so that a
+// refused call writes nothing at all.
 #![tactic(auto)]
 
 ghost use Rattle.std.specs.Prelude.{◌≡◌, ◌<◌};
-ghost use Rattle.meaning.specs.Limits.{base};
+ghost use Rattle.meaning.specs.Limits.{base, fault_number};
 ghost use Rattle.meaning.specs.Region.{tables, rooms};
-ghost use Rattle.meaning.specs.Boundary.{field, packed as packed_of, read_code, answer_code, ReadFits, AnswerFits, GraphCalled, CoordinatesCalled, SitesCalled, SearchCalled, PanelCalled, stretch_code};
+ghost use Rattle.meaning.specs.Boundary.{field, packed as packed_of, read_code, answer_code, RefusalFits, ReadFits, AnswerFits, GraphCalled, CoordinatesCalled, SitesCalled, SearchCalled, PanelCalled, stretch_code};
 
-use meaning::{Answer, Read};
+use meaning::{Counts, Refusal, Tables, Tally};
 
 // A place and a count have 28 bits each, and a refusal's number the 8 bits above them.
-const FIELD: u64 = 268435456;
-
-fn wide(x: usize) -> u64
-    ensures { result ≡ x }
-{
-    x as u64
-}
+const FIELD: u64 = 1 << 28;
 
 fn packed(number: usize, first: usize, second: usize) -> u64
     requires { (number < 256) × (first < field) × (second < field) }
     ensures { result ≡ packed_of number first second }
 {
-    (wide(number) * FIELD + wide(first)) * FIELD + wide(second)
+    (number as u64 * FIELD + first as u64) * FIELD + second as u64
 }
 
-fn read_code(answer: Read) -> u64
+fn refused(refusal: Refusal) -> u64
+    requires { RefusalFits (fault_number refusal.fault) refusal.place }
+    ensures { result ≡ packed_of (fault_number refusal.fault) refusal.place 0 }
+{
+    packed(usize::from(refusal.fault), refusal.place, 0)
+}
+
+fn read_code(answer: Result<Counts, Refusal>) -> u64
     requires { ReadFits answer }
     ensures { result ≡ read_code answer }
 {
     match answer {
-        Read::Refused { number, place } => packed(number, place, 0),
-        Read::Accepted { nodes, rows } => packed(0, nodes, rows),
+        Ok(counts) => packed(0, counts.nodes, counts.rows),
+        Err(refusal) => refused(refusal),
     }
 }
 
-fn answer_code(answer: Answer) -> u64
+fn answer_code(answer: Result<Tally, Refusal>) -> u64
     requires { AnswerFits answer }
     ensures { result ≡ answer_code answer }
 {
     match answer {
-        Answer::Denied { number, place } => packed(number, place, 0),
-        Answer::Listed { sites, taken } => packed(0, sites, taken),
+        Ok(tally) => packed(0, tally.sites, tally.taken),
+        Err(refusal) => refused(refusal),
     }
 }
 
@@ -103,9 +106,19 @@ pub extern "C" fn wick_search(
         (rooms work.old listed.old lengths.old ends.old routes.old)
         (rooms work.new listed.new lengths.new ends.new routes.new) result }
 {
+    let lent = Tables {
+        tails,
+        heads,
+        weights,
+        xs,
+        ys,
+        sites,
+        n,
+        m,
+        s,
+    };
     answer_code(search::search(
-        tails, heads, weights, xs, ys, sites, n, m, s, query, k, work, listed, lengths, ends,
-        routes,
+        &lent, query, k, work, listed, lengths, ends, routes,
     ))
 }
 
@@ -132,12 +145,24 @@ pub extern "C" fn wick_panel(
         (rooms work.old listed.old lengths.old ends.old routes.old)
         (rooms work.new listed.new lengths.new ends.new routes.new) result }
 {
+    let lent = Tables {
+        tails,
+        heads,
+        weights,
+        xs,
+        ys,
+        sites,
+        n,
+        m,
+        s,
+    };
     answer_code(search::panel(
-        tails, heads, weights, xs, ys, sites, n, m, s, query, work, listed, lengths, ends, routes,
+        &lent, query, work, listed, lengths, ends, routes,
     ))
 }
 
-// Where the route of a rank stands in the lent buffer, and how many entries it has: a stretch can't be returned to C. It stops at its own end.
+// Where the route of a rank stands in the lent buffer, and how many entries it has: a stretch can't
+// be returned to C. It stops at its own end.
 #[unsafe(no_mangle)]
 pub extern "C" fn wick_route(routes: &[u16], ends: &[u16], rank: usize) -> u64
     ensures { result ≡ stretch_code routes.now ends.now rank }
@@ -147,6 +172,6 @@ pub extern "C" fn wick_route(routes: &[u16], ends: &[u16], rank: usize) -> u64
     if size == 0 {
         return 0;
     }
-    let end = ends[rank - 1] as usize;
+    let end = usize::from(ends[rank - 1]);
     packed(0, end - size, size)
 }
