@@ -3,7 +3,8 @@
 
 ghost use Rattle.std.specs.Prelude.{◌≡◌, true, false, MatchOption};
 ghost use Rattle.meaning.specs.Text.{fields, first, others};
-ghost use Rattle.meaning.specs.Grammar.{aux_count, problem_of, data_of, line_of, word_a, word_v, word_s};
+ghost use Rattle.meaning.specs.Grammar.{aux_count, problem_of, data_of, line_of};
+ghost use Rattle.meaning.specs.Grammar.{word_a, word_v, word_s};
 ghost use Rattle.meaning.specs.declared.Kind.TheVariants.{Graph, Coordinates, Sites};
 ghost use Rattle.grammar.specs.Fields.{IsNext, IsLast, problem_line, data_line};
 
