@@ -1,13 +1,12 @@
 -- The calls as a panel in C or Rust makes them: an answer is one 64-bit number, and every lent buffer is left as the library's own call leaves it.
-use Rattle.std.specs.Prelude.{ℕ, ◌+◌, ◌*◌, ◌^◌, ◌/◌, ◌%◌, ◌≤◌, ◌<◌, cond, List, ◌≡◌, eqb, ℤ, length}
+use Rattle.std.specs.Prelude.{Result, Ok, Err, ℕ, ◌+◌, ◌*◌, ◌^◌, ◌/◌, ◌%◌, ◌≤◌, ◌<◌, cond, List, ◌≡◌, eqb, ℤ, length}
+use Rattle.meaning.specs.Limits.{fault_number}
 use Rattle.meaning.specs.Files.{GraphRead, CoordinatesRead, SitesRead}
 use Rattle.meaning.specs.Region.{Tables, Rooms}
-use Rattle.meaning.specs.Search.{Searched, Panelled, begin_of, stretch}
+use Rattle.meaning.specs.Search.{Answer, Searched, Panelled, begin_of, stretch}
 use Rattle.meaning.specs.declared.Limits.{Limits}
-use Rattle.meaning.specs.declared.Read.{Read}
-use Rattle.meaning.specs.declared.Read.TheVariants.{Refused, Accepted}
-use Rattle.meaning.specs.declared.Answer.{Answer}
-use Rattle.meaning.specs.declared.Answer.TheVariants.{Denied, Listed}
+use Rattle.meaning.specs.declared.Refusal.{Refusal}
+use Rattle.meaning.specs.declared.Counts.{Counts}
 
 -- ---- an answer as one number
 
@@ -32,14 +31,14 @@ abbrev pub second_of : ℕ → ℕ
 second_of code = code % field
 
 -- "Every refusal returns its number and a place"; "It returns the counts of its problem line"
-abbrev pub read_code : Read → ℕ
-read_code (Refused number place) = packed number place 0
-read_code (Accepted nodes rows) = packed 0 nodes rows
+abbrev pub read_code : Result Counts Refusal → ℕ
+read_code (Err refused) = packed (fault_number refused.fault) refused.place 0
+read_code (Ok c) = packed 0 c.nodes c.rows
 
 -- "an accepted search returns the number of sites listed and the taken count"
 abbrev pub answer_code : Answer → ℕ
-answer_code (Denied number place) = packed number place 0
-answer_code (Listed sites taken) = packed 0 sites taken
+answer_code (Err refused) = packed (fault_number refused.fault) refused.place 0
+answer_code (Ok tally) = packed 0 tally.sites tally.taken
 
 -- the parts of a refusal have room in the number
 pub record RefusalFits (number place : ℕ) : Type 0 where
@@ -53,32 +52,32 @@ pub record CountsFit (first second : ℕ) : Type 0 where
   pub second_small : second < field
 
 -- a reader's answer has room in the number
-abbrev pub ReadFits : Read → Type 0
-ReadFits (Refused number place) = RefusalFits number place
-ReadFits (Accepted nodes rows) = CountsFit nodes rows
+abbrev pub ReadFits : Result Counts Refusal → Type 0
+ReadFits (Err refused) = RefusalFits (fault_number refused.fault) refused.place
+ReadFits (Ok c) = CountsFit c.nodes c.rows
 
 -- and a search's
 abbrev pub AnswerFits : Answer → Type 0
-AnswerFits (Denied number place) = RefusalFits number place
-AnswerFits (Listed sites taken) = CountsFit sites taken
+AnswerFits (Err refused) = RefusalFits (fault_number refused.fault) refused.place
+AnswerFits (Ok tally) = CountsFit tally.sites tally.taken
 
 -- ---- the outcome of each call: the one of the library's call, with the answer's number returned
 
 -- the graph reader
 pub record GraphCalled (L : Limits) (text tails heads weights tails' heads' weights' : List ℕ) (returned : ℕ) : Type 0 where
-  pub answer : Read
+  pub answer : Result Counts Refusal
   pub outcome : GraphRead L text tails heads weights tails' heads' weights' answer
   pub returned_is : returned ≡ read_code answer
 
 -- the coordinate reader
 pub record CoordinatesCalled (L : Limits) (text : List ℕ) (n : ℕ) (xs ys xs' ys' : List ℤ) (returned : ℕ) : Type 0 where
-  pub answer : Read
+  pub answer : Result Counts Refusal
   pub outcome : CoordinatesRead L text n xs ys xs' ys' answer
   pub returned_is : returned ≡ read_code answer
 
 -- the site reader
 pub record SitesCalled (L : Limits) (text : List ℕ) (n : ℕ) (sites sites' : List ℕ) (returned : ℕ) : Type 0 where
-  pub answer : Read
+  pub answer : Result Counts Refusal
   pub outcome : SitesRead L text n sites sites' answer
   pub returned_is : returned ≡ read_code answer
 

@@ -1,9 +1,12 @@
 -- The reading of a text: a fold over its lines, one for the three texts, and what it leaves in the lent tables.
-use Rattle.std.specs.Prelude.{ℕ, suc, ◌-◌, min, List, [], ◌∷◌, ◌++◌, map, Bool, true, false, cond, ◌&&◌, ◌||◌, ◌≡◌, length, drop, set, leb, eqb, ℤ, pos, nat_abs}
-use Rattle.meaning.specs.Limits.{text_too_long, not_permitted, problem_misplaced, count_outside, node_outside, value_outside, data_miscounted, given_twice, table_short}
+use Rattle.std.specs.Prelude.{ℕ, suc, Result, Ok, Err, ◌-◌, min, List, [], ◌∷◌, ◌++◌, map, Bool, true, false, cond, ◌&&◌, ◌||◌, ◌≡◌, length, drop, set, leb, eqb, ℤ, pos, nat_abs}
+use Rattle.meaning.specs.Limits.{Test, fine, refusal}
 use Rattle.meaning.specs.Text.{lines, trim, fields}
 use Rattle.meaning.specs.Grammar.{line_of}
 use Rattle.meaning.specs.declared.Limits.{Limits}
+use Rattle.meaning.specs.declared.Fault.{Fault}
+use Rattle.meaning.specs.declared.Fault.TheVariants.{TextTooLong, NotPermitted, ProblemMisplaced, CountOutside, NodeOutside, ValueOutside, DataMiscounted, GivenTwice, TableShort}
+use Rattle.meaning.specs.declared.Refusal.{Refusal}
 use Rattle.meaning.specs.declared.Kind.{Kind}
 use Rattle.meaning.specs.declared.Kind.TheVariants.{Graph, Coordinates, Sites}
 use Rattle.meaning.specs.declared.Rules.{Rules}
@@ -12,8 +15,6 @@ use Rattle.meaning.specs.declared.Entry.{Entry}
 use Rattle.meaning.specs.declared.Entry.TheVariants.{Arc, Point, Site}
 use Rattle.meaning.specs.declared.Line.{Line}
 use Rattle.meaning.specs.declared.Line.TheVariants.{Nothing, Problem, Data, Malformed}
-use Rattle.meaning.specs.declared.Read.{Read}
-use Rattle.meaning.specs.declared.Read.TheVariants.{Refused, Accepted}
 
 -- whether x lies from lo to hi
 abbrev pub within : ℕ → ℕ → ℕ → Bool
@@ -41,20 +42,20 @@ agrees Graph given n = true
 agrees Coordinates given n = eqb n given
 agrees Sites given n = true
 
--- 0, or the refusal of a problem line's counts
-abbrev pub counts_fault : Rules → Counts → ℕ
+-- the test of a problem line's counts
+abbrev pub counts_fault : Rules → Counts → Test
 counts_fault R c =
     cond (within 1 c.nodes R.limits.nodes && (leb c.rows (most_rows R.limits R.kind) && agrees R.kind R.given c.nodes))
-    (cond (leb c.rows R.room) 0 table_short)
-    count_outside
+    (cond (leb c.rows R.room) fine (Err TableShort))
+    (Err CountOutside)
 
 -- ---- a data line: 5, 6, 8
 
--- 0, or the refusal of an entry's nodes and values, where there are n nodes
-abbrev pub entry_fault : Limits → ℕ → Entry → ℕ
-entry_fault L n (Arc u v w) = cond (within 1 u n && within 1 v n) (cond (is_weight L w) 0 value_outside) node_outside
-entry_fault L n (Point v x y) = cond (within 1 v n) (cond (is_coordinate L x && is_coordinate L y) 0 value_outside) node_outside
-entry_fault L n (Site v) = cond (within 1 v n) 0 node_outside
+-- the test of an entry's nodes and values, where there are n nodes
+abbrev pub entry_fault : Limits → ℕ → Entry → Test
+entry_fault L n (Arc u v w) = cond (within 1 u n && within 1 v n) (cond (is_weight L w) fine (Err ValueOutside)) (Err NodeOutside)
+entry_fault L n (Point v x y) = cond (within 1 v n) (cond (is_coordinate L x && is_coordinate L y) fine (Err ValueOutside)) (Err NodeOutside)
+entry_fault L n (Site v) = cond (within 1 v n) fine (Err NodeOutside)
 
 -- the node that an entry is of; an arc's is its tail
 abbrev pub node_of : Entry → ℕ
@@ -80,39 +81,40 @@ pub data Progress : Type 0 where
   awaiting : Progress
   begun : Counts → List Entry → Progress
 
--- what follows a line: a refusal's number, or the reading goes on
+-- what follows a line: a refusal, or the reading goes on
 pub data Next : Type 0 where
-  stop : ℕ → Next
+  stop : Fault → Next
   go : Progress → Next
 
--- go on where there is no fault
-abbrev pub unless : ℕ → Next → Next
-unless fault n = cond (eqb fault 0) n (stop fault)
+-- go on where a test passes
+abbrev pub unless : Test → Next → Next
+unless (Ok passed) n = n
+unless (Err fault) n = stop fault
 
 -- "problem line 2, 3, 4, 9; data line 2, 3, 7, 5, 6, 8"
 abbrev pub step : Rules → Progress → Line → Next
 step R p Nothing = go p
-step R p Malformed = stop not_permitted
+step R p Malformed = stop NotPermitted
 step R awaiting (Problem c) = unless (counts_fault R c) (go (begun c []))
-step R awaiting (Data e) = stop problem_misplaced
-step R (begun c es) (Problem d) = stop problem_misplaced
+step R awaiting (Data e) = stop ProblemMisplaced
+step R (begun c es) (Problem d) = stop ProblemMisplaced
 step R (begun c es) (Data e) =
-    cond (leb c.rows (length es)) (stop data_miscounted)
-    (unless (entry_fault R.limits c.nodes e) (cond (repeated e es) (stop given_twice) (go (begun c (es ++ e ∷ [])))))
+    cond (leb c.rows (length es)) (stop DataMiscounted)
+    (unless (entry_fault R.limits c.nodes e) (cond (repeated e es) (stop GivenTwice) (go (begun c (es ++ e ∷ [])))))
 
--- a reading's result: the refusal's number and place, or the counts and the data
+-- a reading's result: the refusal and its place, or the counts and the data
 pub data Reading : Type 0 where
-  refused : ℕ → ℕ → Reading
+  refused : Fault → ℕ → Reading
   read : Counts → List Entry → Reading
 
 -- "at the end 3, then 7"
 abbrev pub finish : Progress → Reading
-finish awaiting = refused problem_misplaced 0
-finish (begun c es) = cond (eqb (length es) c.rows) (read c es) (refused data_miscounted 0)
+finish awaiting = refused ProblemMisplaced 0
+finish (begun c es) = cond (eqb (length es) c.rows) (read c es) (refused DataMiscounted 0)
 
 -- a refusal at this line's place, or what follows
 abbrev pub on_next : Next → ℕ → (Progress → Reading) → Reading
-on_next (stop number) place on = refused number place
+on_next (stop fault) place on = refused fault place
 on_next (go p) place on = on p
 
 -- "Lines and entries count from 1": what is left of the lines, after k of them
@@ -131,19 +133,19 @@ handed_in L Sites n = within 1 n L.nodes
 abbrev pub reading : Rules → List ℕ → Reading
 reading R text =
     cond (leb (length text) R.limits.text)
-    (cond (handed_in R.limits R.kind R.given) (read_from R (lines text) awaiting 0) (refused count_outside 0))
-    (refused text_too_long 0)
+    (cond (handed_in R.limits R.kind R.given) (read_from R (lines text) awaiting 0) (refused CountOutside 0))
+    (refused TextTooLong 0)
 
 -- "It returns the counts of its problem line"; "Every refusal returns its number and a place"
-abbrev pub answered : Reading → Read
-answered (refused number place) = Refused number place
-answered (read c es) = Accepted c.nodes c.rows
+abbrev pub answered : Reading → Result Counts Refusal
+answered (refused fault place) = Err (refusal fault place)
+answered (read c es) = Ok c
 
 -- ---- the tables at exit
 
 -- one value of every entry, in the text's order: "the first entries hold the data and later entries are unchanged"; "every lent buffer keeps its entry contents"
 abbrev pub in_front : {A : Type 0} → (Entry → A) → Reading → List A → List A
-in_front value (refused number place) xs = xs
+in_front value (refused fault place) xs = xs
 in_front value (read c es) xs = map value es ++ drop (length es) xs
 
 -- each entry's value at its node
@@ -153,7 +155,7 @@ put_all value (e ∷ es) xs = put_all value es (set xs (node_of e - 1) (value e)
 
 -- "coordinates by node number"
 abbrev pub by_node : {A : Type 0} → (Entry → A) → Reading → List A → List A
-by_node value (refused number place) xs = xs
+by_node value (refused fault place) xs = xs
 by_node value (read c es) xs = put_all value es xs
 
 -- V of "a U V W"; U is the entry's node
@@ -207,19 +209,19 @@ abbrev pub site_reading : Limits → List ℕ → ℕ → List ℕ → Reading
 site_reading L text n sites = reading (site_rules L n (length sites)) text
 
 -- the outcome of the graph reader: the answer, and each lent table as it was and as it is left
-pub record GraphRead (L : Limits) (text tails heads weights tails' heads' weights' : List ℕ) (answer : Read) : Type 0 where
+pub record GraphRead (L : Limits) (text tails heads weights tails' heads' weights' : List ℕ) (answer : Result Counts Refusal) : Type 0 where
   pub answer_is : answer ≡ answered (graph_reading L text tails heads weights)
   pub tails_are : tails' ≡ in_front node_of (graph_reading L text tails heads weights) tails
   pub heads_are : heads' ≡ in_front head_of (graph_reading L text tails heads weights) heads
   pub weights_are : weights' ≡ in_front weight_of (graph_reading L text tails heads weights) weights
 
 -- the outcome of the coordinate reader
-pub record CoordinatesRead (L : Limits) (text : List ℕ) (n : ℕ) (xs ys xs' ys' : List ℤ) (answer : Read) : Type 0 where
+pub record CoordinatesRead (L : Limits) (text : List ℕ) (n : ℕ) (xs ys xs' ys' : List ℤ) (answer : Result Counts Refusal) : Type 0 where
   pub answer_is : answer ≡ answered (coordinate_reading L text n xs ys)
   pub xs_are : xs' ≡ by_node x_of (coordinate_reading L text n xs ys) xs
   pub ys_are : ys' ≡ by_node y_of (coordinate_reading L text n xs ys) ys
 
 -- the outcome of the site reader
-pub record SitesRead (L : Limits) (text : List ℕ) (n : ℕ) (sites sites' : List ℕ) (answer : Read) : Type 0 where
+pub record SitesRead (L : Limits) (text : List ℕ) (n : ℕ) (sites sites' : List ℕ) (answer : Result Counts Refusal) : Type 0 where
   pub answer_is : answer ≡ answered (site_reading L text n sites)
   pub sites_are : sites' ≡ in_front node_of (site_reading L text n sites) sites

@@ -1,12 +1,8 @@
 -- What a line of each of the three texts says, by its fields.
-use Rattle.std.specs.Prelude.{ℕ, List, [], ◌∷◌, cond, ◌&&◌, ◌||◌}
+use Rattle.std.specs.Prelude.{ℕ, ℤ, Option, Some, None, List, [], ◌∷◌, cond, ◌&&◌, ◌||◌}
 use Rattle.meaning.specs.Text.{first, others, none, same, number, signed}
 use Rattle.meaning.specs.declared.Kind.{Kind}
 use Rattle.meaning.specs.declared.Kind.TheVariants.{Graph, Coordinates, Sites}
-use Rattle.meaning.specs.declared.Number.{Number}
-use Rattle.meaning.specs.declared.Number.TheVariants.{Value, NoNumber}
-use Rattle.meaning.specs.declared.Signed.{Signed}
-use Rattle.meaning.specs.declared.Signed.TheVariants.{At, NoCoordinate}
 use Rattle.meaning.specs.declared.Entry.TheVariants.{Arc, Point, Site}
 use Rattle.meaning.specs.declared.Line.{Line}
 use Rattle.meaning.specs.declared.Line.TheVariants.{Nothing, Problem, Data, Malformed}
@@ -48,35 +44,35 @@ abbrev pub word_c : List ℕ
 word_c = 99 ∷ []
 
 -- a last field that is a number
-abbrev pub last_number : List (List ℕ) → Number
-last_number fs = cond (none (others fs)) (number (first fs)) NoNumber
+abbrev pub last_number : List (List ℕ) → Option ℕ
+last_number fs = cond (none (others fs)) (number (first fs)) None
 
 -- a last field that is a coordinate
-abbrev pub last_signed : List (List ℕ) → Signed
-last_signed fs = cond (none (others fs)) (signed (first fs)) NoCoordinate
+abbrev pub last_signed : List (List ℕ) → Option ℤ
+last_signed fs = cond (none (others fs)) (signed (first fs)) None
 
 -- aux, sp and a third word, then one number and no more
-abbrev pub aux_count : List ℕ → List (List ℕ) → Number
+abbrev pub aux_count : List ℕ → List (List ℕ) → Option ℕ
 aux_count third fs =
     cond (same (first fs) word_aux && (same (first (others fs)) word_sp && same (first (others (others fs))) third))
     (last_number (others (others (others fs))))
-    NoNumber
+    None
 
 -- N and M
-abbrev pub graph_counts : Number → Number → Line
-graph_counts (Value n) (Value m) = Problem (record { nodes = n; rows = m })
-graph_counts (Value n) NoNumber = Malformed
-graph_counts NoNumber m = Malformed
+abbrev pub graph_counts : Option ℕ → Option ℕ → Line
+graph_counts (Some n) (Some m) = Problem (record { nodes = n; rows = m })
+graph_counts (Some n) None = Malformed
+graph_counts None m = Malformed
 
 -- N, which is the number of data lines too
-abbrev pub point_counts : Number → Line
-point_counts (Value n) = Problem (record { nodes = n; rows = n })
-point_counts NoNumber = Malformed
+abbrev pub point_counts : Option ℕ → Line
+point_counts (Some n) = Problem (record { nodes = n; rows = n })
+point_counts None = Malformed
 
 -- S, beside the N handed in
-abbrev pub site_counts : ℕ → Number → Line
-site_counts given (Value s) = Problem (record { nodes = given; rows = s })
-site_counts given NoNumber = Malformed
+abbrev pub site_counts : ℕ → Option ℕ → Line
+site_counts given (Some s) = Problem (record { nodes = given; rows = s })
+site_counts given None = Malformed
 
 -- after p: "sp N M", "aux sp co N", "aux sp ss S"
 abbrev pub problem_of : Kind → ℕ → List (List ℕ) → Line
@@ -85,23 +81,23 @@ problem_of Coordinates given fs = point_counts (aux_count word_co fs)
 problem_of Sites given fs = site_counts given (aux_count word_ss fs)
 
 -- U V W, all of them numbers
-abbrev pub arc_data : Number → Number → Number → Line
-arc_data (Value u) (Value v) (Value w) = Data (Arc u v w)
-arc_data (Value u) (Value v) NoNumber = Malformed
-arc_data (Value u) NoNumber w = Malformed
-arc_data NoNumber v w = Malformed
+abbrev pub arc_data : Option ℕ → Option ℕ → Option ℕ → Line
+arc_data (Some u) (Some v) (Some w) = Data (Arc u v w)
+arc_data (Some u) (Some v) None = Malformed
+arc_data (Some u) None w = Malformed
+arc_data None v w = Malformed
 
 -- ID X Y: a number and two coordinates
-abbrev pub point_data : Number → Signed → Signed → Line
-point_data (Value v) (At x) (At y) = Data (Point v x y)
-point_data (Value v) (At x) NoCoordinate = Malformed
-point_data (Value v) NoCoordinate y = Malformed
-point_data NoNumber x y = Malformed
+abbrev pub point_data : Option ℕ → Option ℤ → Option ℤ → Line
+point_data (Some v) (Some x) (Some y) = Data (Point v x y)
+point_data (Some v) (Some x) None = Malformed
+point_data (Some v) None y = Malformed
+point_data None x y = Malformed
 
 -- ID, a number
-abbrev pub site_data : Number → Line
-site_data (Value v) = Data (Site v)
-site_data NoNumber = Malformed
+abbrev pub site_data : Option ℕ → Line
+site_data (Some v) = Data (Site v)
+site_data None = Malformed
 
 -- "a U V W", "v ID X Y", "s ID": the first field, and those after it
 abbrev pub data_of : Kind → List ℕ → List (List ℕ) → Line

@@ -1,16 +1,14 @@
 -- The outcome of a search, of the panel call and of the call for a route's stretch: the answer, and every lent buffer at exit.
-use Rattle.std.specs.Prelude.{Bool, cond, ◌&&◌, List, [], ◌∷◌, ◌++◌, map, ◌≡◌, ℕ, suc, ◌+◌, ◌-◌, ◌*◌, leb, length, get_or, take, drop, replicate}
+use Rattle.std.specs.Prelude.{Result, Ok, Err, Bool, cond, ◌&&◌, List, [], ◌∷◌, ◌++◌, map, ◌≡◌, ℕ, suc, ◌+◌, ◌-◌, ◌*◌, leb, length, get_or, take, drop, replicate}
 use Rattle.meaning.specs.Limits.{panel_k}
 use Rattle.meaning.specs.Straight.{straight}
 use Rattle.meaning.specs.Region.{Tables, Rooms, region_of, x_at, y_at, LeastArc, is_site}
 use Rattle.meaning.specs.Taking.{to_sites, taken_count}
 use Rattle.meaning.specs.Listing.{Stop, Listing}
-use Rattle.meaning.specs.Checks.{inspect}
+use Rattle.meaning.specs.Checks.{Verdict, inspect}
 use Rattle.meaning.specs.declared.Limits.{Limits}
-use Rattle.meaning.specs.declared.Verdict.{Verdict}
-use Rattle.meaning.specs.declared.Verdict.TheVariants.{Fine, Faulty}
-use Rattle.meaning.specs.declared.Answer.{Answer}
-use Rattle.meaning.specs.declared.Answer.TheVariants.{Denied, Listed}
+use Rattle.meaning.specs.declared.Refusal.{Refusal}
+use Rattle.meaning.specs.declared.Tally.{Tally}
 
 -- "Entries past those used, in any buffer, are unchanged."
 abbrev pub over : List ℕ → List ℕ → List ℕ
@@ -44,22 +42,26 @@ filled r n list = record {
 abbrev pub aim_of : Tables → (ℕ → Bool) → ℕ → ℕ
 aim_of t = to_sites (region_of t) (straight (x_at t) (y_at t))
 
+-- what a search answers
+abbrev pub Answer : Type 0
+Answer = Result Tally Refusal
+
 -- an accepted search: "an accepted search returns the number of sites listed and the taken count"
 pub record Found (t : Tables) (q k : ℕ) (before after : Rooms) (answer : Answer) : Type 0 where
   pub list : List Stop
   pub listing : Listing (LeastArc (region_of t)) (is_site (region_of t)) (q - 1) k list
-  pub answer_is : answer ≡ Listed (length list) (taken_count (region_of t) (aim_of t) k (q - 1))
+  pub answer_is : answer ≡ Ok (record { sites = length list; taken = taken_count (region_of t) (aim_of t) k (q - 1) })
   pub rooms_are : after ≡ filled before t.n list
 
 -- a refused one: "Every refusal returns its number and a place, and every lent buffer keeps its entry contents, work memory included."
-pub record Kept (number place : ℕ) (before after : Rooms) (answer : Answer) : Type 0 where
-  pub answer_is : answer ≡ Denied number place
+pub record Kept (refused : Refusal) (before after : Rooms) (answer : Answer) : Type 0 where
+  pub answer_is : answer ≡ Err refused
   pub rooms_are : after ≡ before
 
 -- by the verdict of the checks
 abbrev pub judged : Verdict → Tables → ℕ → ℕ → Rooms → Rooms → Answer → Type 0
-judged Fine t q k before after answer = Found t q k before after answer
-judged (Faulty number place) t q k before after answer = Kept number place before after answer
+judged (Ok passed) t q k before after answer = Found t q k before after answer
+judged (Err refused) t q k before after answer = Kept refused before after answer
 
 -- the search's outcome
 abbrev pub Searched : Limits → Tables → ℕ → ℕ → Rooms → Rooms → Answer → Type 0

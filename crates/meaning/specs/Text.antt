@@ -1,9 +1,5 @@
 -- Lines, fields, words and numbers of a text, as functions of its bytes.
-use Rattle.std.specs.Prelude.{ℕ, ◌+◌, ◌-◌, ◌*◌, List, [], ◌∷◌, Bool, true, false, not, cond, ◌&&◌, ◌||◌, length, get_or, take, drop, leb, eqb, pos, neg_ℤ}
-use Rattle.meaning.specs.declared.Number.{Number}
-use Rattle.meaning.specs.declared.Number.TheVariants.{Value, NoNumber}
-use Rattle.meaning.specs.declared.Signed.{Signed}
-use Rattle.meaning.specs.declared.Signed.TheVariants.{At, NoCoordinate}
+use Rattle.std.specs.Prelude.{ℕ, ℤ, Option, Some, None, ◌+◌, ◌-◌, ◌*◌, List, [], ◌∷◌, Bool, true, false, not, cond, ◌&&◌, ◌||◌, length, get_or, take, drop, leb, eqb, pos, neg_ℤ}
 
 -- a byte put in front of the first part
 abbrev pub joined : ℕ → List (List ℕ) → List (List ℕ)
@@ -60,24 +56,24 @@ abbrev pub is_digit : ℕ → Bool
 is_digit b = leb 48 b && leb b 57
 
 -- the value of digits that follow the value a
-abbrev pub digits : ℕ → List ℕ → Number
-digits a [] = Value a
-digits a (b ∷ bs) = cond (is_digit b) (digits (a * 10 + (b - 48)) bs) NoNumber
+abbrev pub digits : ℕ → List ℕ → Option ℕ
+digits a [] = Some a
+digits a (b ∷ bs) = cond (is_digit b) (digits (a * 10 + (b - 48)) bs) None
 
 -- "A number is 1 to 9 decimal digits; leading zeros are allowed."
-abbrev pub number : List ℕ → Number
-number f = cond (leb 1 (length f) && leb (length f) 9) (digits 0 f) NoNumber
+abbrev pub number : List ℕ → Option ℕ
+number f = cond (leb 1 (length f) && leb (length f) 9) (digits 0 f) None
 
 -- a number without a sign
-abbrev pub plus : Number → Signed
-plus (Value v) = At (pos v)
-plus NoNumber = NoCoordinate
+abbrev pub plus : Option ℕ → Option ℤ
+plus (Some v) = Some (pos v)
+plus None = None
 
 -- a number behind a minus sign; -0 is 0
-abbrev pub minus : Number → Signed
-minus (Value v) = At (neg_ℤ (pos v))
-minus NoNumber = NoCoordinate
+abbrev pub minus : Option ℕ → Option ℤ
+minus (Some v) = Some (neg_ℤ (pos v))
+minus None = None
 
 -- "X and Y may have one minus sign before the digits, and -0 is 0."
-abbrev pub signed : List ℕ → Signed
+abbrev pub signed : List ℕ → Option ℤ
 signed f = cond (eqb (get_or f 0 0) 45) (minus (number (drop 1 f))) (plus (number f))

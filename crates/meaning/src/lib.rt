@@ -2,7 +2,9 @@
 #![tactic(auto)]
 
 ghost use Rattle.std.specs.Prelude.{◌≡◌};
-ghost use Rattle.meaning.specs.Limits.{base as base_limits};
+ghost use Rattle.meaning.specs.Limits.{base as base_limits, fault_number, refusal};
+
+use std::fmt;
 
 // The limits of the paper, in one record: text in bytes, weight and coordinate as the largest sizes permitted.
 #[derive(Clone, Copy)]
@@ -38,32 +40,67 @@ pub fn base() -> Limits
     }
 }
 
-// The refusals, by the paper's numbers.
-pub const TEXT_TOO_LONG: usize = 1;
+// The refusals, in the order of the paper's numbers.
+#[derive(Clone, Copy, PartialEq, Eq, Debug)]
+pub enum Fault {
+    TextTooLong = 1,
+    NotPermitted,
+    ProblemMisplaced,
+    CountOutside,
+    NodeOutside,
+    ValueOutside,
+    DataMiscounted,
+    GivenTwice,
+    TableShort,
+    ArcShort,
+    QueryOutside,
+    KOutside,
+    RoomShort,
+}
 
-pub const NOT_PERMITTED: usize = 2;
+// The paper's number.
+impl From<Fault> for usize {
+    ghost from_gives = { λ fault number. number ≡ fault_number fault };
 
-pub const PROBLEM_MISPLACED: usize = 3;
+    fn from(fault: Fault) -> usize {
+        fault as usize
+    }
+}
 
-pub const COUNT_OUTSIDE: usize = 4;
+impl fmt::Display for Fault {
+    fn fmt<W: fmt::Write>(&self, f: &mut fmt::Formatter<W>) -> fmt::Result {
+        f.write_str(match self {
+            Fault::TextTooLong => "the text is over 65,536 bytes",
+            Fault::NotPermitted => "a line is not of a permitted form",
+            Fault::ProblemMisplaced => {
+                "data before the problem line, a second problem line, or none"
+            }
+            Fault::CountOutside => "a count is out of its limits, or N differs from the graph's",
+            Fault::NodeOutside => "a node number is outside 1 to N",
+            Fault::ValueOutside => "a weight or a coordinate is out of range",
+            Fault::DataMiscounted => "one data line too many, or too few at the end",
+            Fault::GivenTwice => "a node is given twice",
+            Fault::TableShort => "a table is shorter than its count",
+            Fault::ArcShort => "an arc is shorter than the straight line between its ends",
+            Fault::QueryOutside | Fault::KOutside | Fault::RoomShort => "the call was refused",
+        })
+    }
+}
 
-pub const NODE_OUTSIDE: usize = 5;
+// A refusal, and its place: a line or an entry, counted from 1, or 0 for the whole.
+#[derive(Clone, Copy, PartialEq, Eq, Debug)]
+pub struct Refusal {
+    pub fault: Fault,
+    pub place: usize,
+}
 
-pub const VALUE_OUTSIDE: usize = 6;
-
-pub const DATA_MISCOUNTED: usize = 7;
-
-pub const GIVEN_TWICE: usize = 8;
-
-pub const TABLE_SHORT: usize = 9;
-
-pub const ARC_SHORT: usize = 10;
-
-pub const QUERY_OUTSIDE: usize = 11;
-
-pub const K_OUTSIDE: usize = 12;
-
-pub const ROOM_SHORT: usize = 13;
+impl Fault {
+    pub fn at(self, place: usize) -> Refusal
+        ensures { result ≡ refusal self place }
+    {
+        Refusal { fault: self, place }
+    }
+}
 
 // The panel call's k.
 pub const PANEL_K: usize = 4;
@@ -76,21 +113,8 @@ pub enum Kind {
     Sites,
 }
 
-// A field read as a number, and as a coordinate.
-#[derive(Clone, Copy)]
-pub enum Number {
-    Value(usize),
-    NoNumber,
-}
-
-#[derive(Clone, Copy)]
-pub enum Signed {
-    At(i32),
-    NoCoordinate,
-}
-
-// The counts of a problem line: the nodes, and the data lines to come.
-#[derive(Clone, Copy)]
+// The counts of a problem line: the nodes, and the data lines to come. An accepted reading answers with them.
+#[derive(Clone, Copy, PartialEq, Eq, Debug)]
 pub struct Counts {
     pub nodes: usize,
     pub rows: usize,
@@ -146,23 +170,9 @@ pub struct Rules {
     pub room: usize,
 }
 
-// The answer of a reader: the refusal's number and place, or the counts of the problem line.
-#[derive(Clone, Copy)]
-pub enum Read {
-    Refused { number: usize, place: usize },
-    Accepted { nodes: usize, rows: usize },
-}
-
-// The verdict of a search's checks.
-#[derive(Clone, Copy)]
-pub enum Verdict {
-    Fine,
-    Faulty { number: usize, place: usize },
-}
-
-// The answer of a search: the refusal's number and place, or how many sites are listed and how many nodes were taken.
-#[derive(Clone, Copy)]
-pub enum Answer {
-    Denied { number: usize, place: usize },
-    Listed { sites: usize, taken: usize },
+// The counts of an accepted search: how many sites are listed, and how many nodes were taken.
+#[derive(Clone, Copy, PartialEq, Eq, Debug)]
+pub struct Tally {
+    pub sites: usize,
+    pub taken: usize,
 }

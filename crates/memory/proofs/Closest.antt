@@ -1,35 +1,47 @@
 -- The sites one by one: whether a node is one, and the closest that isn't taken.
 use mathlib.Core.Bool.{Bool, true, false, cond}
 use mathlib.Core.List.{List}
-use mathlib.Core.Path.{◌≡◌, refl, sym, ap₂}
+use mathlib.Core.Path.{◌≡◌, refl, sym, ap, ap₂, ◌∙◌}
 use Prim.Native.Nat.{ℕ, zero, suc, ◌+◌, ◌-◌, ◌*◌, ◌≤◌, ◌<◌}
-use native.Mathlib.Decide.{dec_lt}
+use native.Mathlib.Decide.{dec_lt, ℕ_discrete}
 use native.Mathlib.Numerals.{add-one}
 use native.Mathlib.Omega.{arith}
-use borrow.Author.Tests.{ne_eqb, lt-ltb, le-ltb}
+use borrow.Author.Tests.{eq-eqb, ne_eqb, lt-ltb, le-ltb}
 use lib.Dec.{T, eqb, eqb→eq, eqb-suc-zero, ltb}
 use lib.IntN.{ℤ, pos, nat_abs}
-use lib.ListN.{get_or}
+use lib.ListN.{get_or, take}
+use Rattle.std.specs.List.{list_any}
+use Rattle.std.proofs.lemmas.List.Folds.{list_any_more}
 use Rattle.meaning.specs.Region.{Tables, x_at, y_at}
 use Rattle.meaning.specs.Scan.{any}
 use Rattle.meaning.specs.Straight.{gap, root, root_to, squares}
-use Rattle.meaning.proofs.Bools.{T_true, true_T}
 use Rattle.meaning.proofs.Estimates.{gap_self}
-use Rattle.meaning.proofs.Scans.{any_of, any_is}
+use Rattle.meaning.proofs.Scans.{any_is}
 use Rattle.straight.specs.Points.{farthest}
-use Rattle.straight.proofs.Laws.{square_small, square_large, squares_small, back, back_near, Square, square_back}
+use Rattle.straight.proofs.Laws.{root_small, square_small, square_large, squares_small, back, back_near, Square, square_back}
 use Rattle.memory.specs.Memory.{is_taken}
 use Rattle.memory.specs.Aim.{Ground, SideBySide, Sized, node_of, site_in, closer_of, least_to, line_to, far_off, nearer}
 use Rattle.memory.proofs.Columns.{site_below}
 
--- whether one passes: it did, or none has so far
-module _ (ok : ℕ → Bool) (j : ℕ) where
-  pub any_yes : (s : ℕ) → j < s → ok j ≡ true → true ≡ any ok s
-  any_yes s l o = sym (T_true (any ok s) (any_of ok s j l (true_T (ok j) o)))
+-- ---- a node's number among those of the sites
 
-  pub any_none : any ok j ≡ false → ok j ≡ false → any ok (j + 1) ≡ false
+number_is : (x v : ℕ) → 1 ≤ x → eqb x (v + 1) ≡ eqb (x - 1) v
+number_is x v l = go (ℕ_discrete x (v + 1))
+  where
+    go : Dec (x ≡ v + 1) → eqb x (v + 1) ≡ eqb (x - 1) v
+    go (yes e) = eq-eqb _ _ e ∙ sym (eq-eqb (x - 1) v (omega arith))
+    go (no z) = ne_eqb _ _ z ∙ sym (ne_eqb (x - 1) v (λ e. z (omega arith)))
+
+module _ {t : Tables} (G : Ground t) (v : ℕ) where
+  among_first : (s : ℕ) → s ≤ t.s → list_any (λ x. eqb x (v + 1)) (take s t.sites) ≡ any (λ j. eqb (node_of t j) v) s
   unfolding any
-  any_none h o = rw (add-one, h, o)
+  among_first zero l = refl
+  among_first (suc s) l =
+      rw (← number_is (get_or t.sites s 0) v (G.low s (omega arith)), ← among_first s (omega arith), ← add-one s)
+      (list_any_more (λ x. eqb x (v + 1)) t.sites s 0 (omega (arith, G.room)))
+
+  pub site_among : list_any (λ x. eqb x (v + 1)) (take t.s t.sites) ≡ site_in t v
+  site_among = among_first t.s (omega arith)
 
 -- ---- the code's square, of two numbers of each column that were passed on
 
@@ -130,9 +142,13 @@ unfolding root root_to
 line_none best zero e l f = refl
 line_none best (suc b) e l f = let h = square_suc b in absurd (omega arith)
 
-pub line_found : (best least : ℕ) → best ≡ square_of least → least ≤ suc farthest → (best ≡ suc farthest → ⊥) → (best ≡ least - 1) × (best ≤ farthest)
-line_found best zero e l z = absurd (z e)
-line_found best (suc b) e l z = let h = square_suc b in omega arith
+pub line_found : {best r : ℕ} (least : ℕ) → best ≡ square_of least → least ≤ suc farthest → (best ≡ suc farthest → ⊥) → r ≡ root best
+    → (r ≡ root (least - 1)) × (r ≤ 1000000000)
+line_found zero e l z f = absurd (z e)
+line_found {best} {r} (suc b) e l z f =
+    let h = square_suc b in
+    let i : best ≡ suc b - 1 = omega arith in
+    (f ∙ ap root i, rw f (root_small best (omega arith)))
 
 -- ---- a site's own line
 

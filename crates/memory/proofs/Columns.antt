@@ -2,7 +2,7 @@
 use mathlib.Core.Bool.{Bool, true, false, cond, ◌||◌}
 use mathlib.Core.List.{List}
 use mathlib.Core.Path.{◌≡◌, refl, sym, ap, ◌∙◌}
-use Prim.Native.Nat.{ℕ, ◌+◌, ◌-◌, ◌≤◌, ◌<◌}
+use Prim.Native.Nat.{ℕ, ◌+◌, ◌≤◌, ◌<◌}
 use native.Mathlib.Decide.{dec_lt}
 use native.Mathlib.Omega.{arith}
 use borrow.Author.Tests.{eq-eqb, ne_eqb}
@@ -10,8 +10,7 @@ use lib.Dec.{T, eqb}
 use lib.IntN.{ℤ, pos}
 use lib.ListN.{length, get_or, set, length-set}
 use lib.Seq.{get_or-set_same, get_or-set_other}
-use Rattle.meaning.specs.Region.{Tables, x_at, y_at}
-use Rattle.meaning.proofs.Bools.{true_T}
+use Rattle.meaning.specs.Region.{Tables, x_at}
 use Rattle.meaning.proofs.Scans.{any_of}
 use Rattle.straight.specs.Points.{entry}
 use Rattle.memory.specs.Memory.{is_taken}

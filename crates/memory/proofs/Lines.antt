@@ -1,4 +1,5 @@
--- The estimate from the memory is the taking rule's: the least of the roots is the root of the least.
+-- The estimate from the memory is the taking rule's: the least of the roots is the root of the
+-- least.
 use mathlib.Core.Path.{◌≡◌, refl}
 use mathlib.Core.Bool.{Bool, true, false, not, cond}
 use mathlib.Core.List.{List}
@@ -8,7 +9,6 @@ use native.Mathlib.Decide.{dec_lt}
 use native.Mathlib.Omega.{arith}
 use borrow.Author.Tests.{lt-ltb, le-ltb, ltb-true, ltb-false}
 use lib.Dec.{eqb, eqb_refl, eqb-suc-zero, ltb}
-use lib.ListN.{get_or}
 use Rattle.meaning.specs.Region.{Tables, Region, region_of, is_site, x_at, y_at}
 use Rattle.meaning.specs.Scan.{better, first}
 use Rattle.meaning.specs.Straight.{root, root_to, squares, straight}
@@ -28,13 +28,15 @@ root_mono a b l =
     let s = sq_lt_inv (root a) (suc (root b)) (omega arith) in
     omega arith
 
--- b is 0 where no site has been found, and else one more than a square whose root is the key of the one found
+-- b is 0 where no site has been found, and else one more than a square whose root is the key of the
+-- one found
 abbrev Beside : (ℕ → ℕ) → Option ℕ → ℕ → Type 0
 Beside f none b = b ≡ 0
 Beside f (some i) b = (c : ℕ) × (b ≡ suc c) × (root c ≡ f i)
 
 module _ (f : ℕ → ℕ) (j q : ℕ) (e : f j ≡ root q) where
-  -- where the square q of j is less than c, its root may still be the same: then i stays, with the same root
+  -- where the square q of j is less than c, its root may still be the same: then i stays, with the
+  -- same root
   nearer : (i c : ℕ) → root c ≡ f i → Beside f (cond (ltb (f j) (f i)) (some j) (some i)) (cond (ltb (suc q) (suc c)) (suc q) (suc c))
   nearer i c r = go (dec_lt q c) (ltb (f j) (f i)) refl
     where

@@ -1,6 +1,6 @@
--- The estimate, from the memory: of the squared distances to the sites that aren't taken the least is
--- kept, and one root is taken.
-use Rattle.std.specs.Prelude.{Bool, false, cond, ◌&&◌, List, ◌≡◌, ℕ, zero, suc, ◌+◌, ◌-◌, ◌*◌, ◌≤◌, ◌<◌, eqb, ltb, ℤ, pos, nat_abs, length, get_or}
+-- The estimate, from the memory: of the squared distances to the sites that aren't taken the least
+-- is kept, and one root is taken.
+use Rattle.std.specs.Prelude.{Bool, false, cond, List, ◌≡◌, ℕ, zero, suc, ◌+◌, ◌-◌, ◌*◌, ◌≤◌, ◌<◌, eqb, ltb, ℤ, pos, nat_abs, length, get_or}
 use Rattle.meaning.specs.Region.{Tables, x_at, y_at}
 use Rattle.meaning.specs.Scan.{any}
 use Rattle.meaning.specs.Straight.{gap, root, squares}
@@ -22,8 +22,8 @@ node_of t j = get_or t.sites j 0 - 1
 abbrev pub site_in : Tables → ℕ → Bool
 site_in t v = any (λ j. eqb (node_of t j) v) t.s
 
--- the least so far, 0 for none or one more than the square, and the square to one more site; a taken
--- site doesn't count
+-- the least so far, 0 for none or one more than the square, and the square to one more site; a
+-- taken site doesn't count
 unfoldable pub closer_of : Bool → ℕ → ℕ → ℕ
 closer_of gone square best = cond gone best (cond (eqb best 0) (suc square) (cond (ltb (suc square) best) (suc square) best))
 

@@ -1,4 +1,5 @@
--- A region whose tables passed the checks: what they have shown of its counts, its arcs and its points.
+-- A region whose tables passed the checks: what they have shown of its counts, its arcs and its
+-- points.
 use Rattle.std.specs.Prelude.{ℕ, ◌≤◌, ◌<◌, length, get_or}
 use Rattle.meaning.specs.Limits.{base}
 use Rattle.meaning.specs.Region.{Tables}

@@ -1,5 +1,6 @@
--- The open nodes in a winner tree over n leaves, in a list of its own. Place n + v is the leaf of node v, and place j, from 1 to n - 1, has the larger of what
--- stands at places 2j and 2j + 1. At a leaf stands the more the sooner its node goes, and 0 where the node isn't open.
+-- The open nodes in a winner tree over n leaves, in a list of its own. Place n + v is the leaf of
+-- node v, and place j, from 1 to n - 1, has the larger of what stands at places 2j and 2j + 1. At a
+-- leaf stands the more the sooner its node goes, and 0 where the node isn't open.
 use Rattle.std.specs.Prelude.{Option, Bool, not, cond, List, ◌≡◌, ℕ, ◌+◌, ◌-◌, ◌*◌, ◌≤◌, ◌<◌, max, T, eqb, length, get_or}
 use Rattle.meaning.specs.Scan.{first}
 use Rattle.memory.specs.Memory.{key_at, next_of}

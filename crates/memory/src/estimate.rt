@@ -8,9 +8,10 @@ use crate::Region;
 use meaning::SITES_MOST;
 use straight::Line;
 
-// Farther off than any node is, and one more than the square of any distance between nodes.
+// Where a taken site is put: farther off than any node is.
 const FAR: i32 = 1000000000;
 
+// One more than the square of any distance between nodes.
 const BEYOND: u64 = 320000000000000001;
 
 // The sites' coordinates side by side; a taken site is put far off.
@@ -55,7 +56,7 @@ impl Aims {
 
     // One root, of the least square; 0 where no site is left.
     fn line_from(&self, r: &Region, work: &[u32], v: usize) -> Line
-        requires n_in_bounds { (4 * r.now.tables.n ≤ length work.now) × (v < r.now.tables.n) }
+        requires v_in_bounds { v < r.now.tables.n }
         requires aims { SideBySide (tables_of r.now.tables) work.now self.now.xs self.now.ys }
         ensures { (result.0 ≡ line_to (tables_of r.now.tables) work.now v)
             × (result.0 ≤ 1000000000) }
@@ -85,16 +86,12 @@ fn closer(x: i32, y: i32, a: i32, b: i32, best: u64) -> u64
 
 // Whether node v is a site.
 fn is_site(r: &Region, v: usize) -> bool
+    requires { v < r.now.tables.n }
     ensures { result ≡ site_in (tables_of r.now.tables) v }
 {
     let t = r.tables;
-    for j in 0..t.s {
-        let node = t.sites[j] as usize - 1;
-        if node == v {
-            return true;
-        }
-    }
-    false
+    let number = v as u16 + 1;
+    t.sites[..t.s].contains(&number)
 }
 
 fn rival(line: Line, site: bool) -> u32
@@ -102,14 +99,12 @@ fn rival(line: Line, site: bool) -> u32
     ensures { result ≡ rival_of line.0 site }
 {
     let twice = line.0 * 2;
-    if site {
-        return twice + 2;
-    }
-    twice + 1
+    if site { twice + 2 } else { twice + 1 }
 }
 
-// What is held of node v while it is open. A site that isn't taken is at no distance from itself, so
-// only a node at distance 0 is looked for among the sites.
+// What is held of node v while it is open. A site that isn't taken is at no distance from itself,
+// so only a node at distance 0 is looked for among the sites. Of the memory only the contract
+// speaks.
 pub fn aim(r: &Region, work: &[u32], aims: &Aims, v: usize) -> u32
     requires n_in_bounds { (4 * r.now.tables.n ≤ length work.now) × (v < r.now.tables.n) }
     requires untaken { is_taken r.now.tables.n work.now v ≡ false }

@@ -1,8 +1,8 @@
-// The work memory of a search: what stands where (specs/Memory, specs/Tree), the open node that goes
-// next, and the estimate of a node.
+// The work memory of a search: what stands where (specs/Memory, specs/Tree), the open node that
+// goes next, and the estimate of a node.
 //
-// The memory stays a lent slice, which each function takes beside n: a struct around it would hold a
-// `&mut`, whose ghost name every clause would have to carry.
+// The memory stays a lent slice, which each function takes beside n: a struct around it would hold
+// a `&mut`, whose ghost name every clause would have to carry.
 #![tactic(auto)]
 
 ghost use Rattle.std.specs.Prelude.{◌≡◌, ◌+◌, ◌-◌, ◌*◌, ◌%◌, ◌≤◌, ◌<◌, eqb, length, get_or, replicate};
@@ -32,10 +32,7 @@ pub fn is_taken(work: &[u32], n: usize, v: usize) -> bool
     requires { (4 * n ≤ length work.now) × (v < n) }
     ensures { result ≡ is_taken n work.now v }
 {
-    if work[v] == 0 {
-        return false;
-    }
-    work[n + v] == 0
+    work[v] != 0 && work[n + v] == 0
 }
 
 // The best length so far of node v; 0 for one that has not been seen.

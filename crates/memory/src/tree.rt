@@ -1,5 +1,5 @@
-// The open nodes in a winner tree (specs/Tree), beside the work memory: the one that goes next stands
-// at its top, and a node whose entries were written is played again on its way there.
+// The open nodes in a winner tree (specs/Tree), beside the work memory: the one that goes next
+// stands at its top, and a node whose entries were written is played again on its way there.
 ghost use Rattle.std.specs.Prelude.{◌≡◌, ℕ, ◌+◌, ◌*◌, ◌≤◌, ◌<◌, length};
 ghost use Rattle.memory.specs.Tree.{Tree, But, Bare, Ranked, Topped};
 
@@ -21,7 +21,7 @@ fn rank(work: &[u32], n: usize, v: usize) -> u64
     if work[n + v] == 0 {
         return 0;
     }
-    (KEYS - key(work, n, v)) * NUMBERS + (65535 - v as u64)
+    (KEYS - key(work, n, v)) * NUMBERS + (NUMBERS - 1 - v as u64)
 }
 
 // The ranks of the open nodes, each at its leaf, and above them the larger of each two.
@@ -57,7 +57,7 @@ impl Winners {
         if top == 0 {
             return None;
         }
-        Some(65535 - (top % NUMBERS) as usize)
+        Some((NUMBERS - 1 - top % NUMBERS) as usize)
     }
 
     // The leaf of node v, whose entries were written, and the places above it are settled anew, as
@@ -70,7 +70,7 @@ impl Winners {
         let mut i = n + v;
         self.ranks[i] = rank(work, n, v);
         while 1 < i {
-            i = i / 2;
+            i /= 2;
             let best = self.ranks[i + i].max(self.ranks[i + i + 1]);
             if self.ranks[i] == best {
                 return;

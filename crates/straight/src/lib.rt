@@ -7,16 +7,17 @@ ghost use Rattle.meaning.specs.Straight.{gap, root as root_of, squares as square
 ghost use Rattle.meaning.specs.Taking.{total as total_of};
 ghost use Rattle.straight.specs.Points.{Placed, entry, farthest};
 
-// A length by road, d_N, and a straight line's length, d_E.
+// A length by road, d_N.
 #[derive(Clone, Copy)]
 pub struct Road(pub u32);
 
+// A straight line's length, d_E.
 #[derive(Clone, Copy)]
 pub struct Line(pub u32);
 
-// The largest whole number whose square is at most x, by Newton's method: the first guess is a power
-// of two above the root, and each next one is less and still no less than the root. Nothing is
-// multiplied, so the square of a guess need not fit.
+// The largest whole number whose square is at most x, by Newton's method: the first guess is a
+// power of two above the root, and each next one is less and still no less than the root. Nothing
+// is multiplied, so the square of a guess need not fit.
 pub fn root(x: u64) -> u64
     ensures { result ≡ root_of x }
 {

@@ -1,4 +1,3 @@
-use Prim.Native.Nat.{◌≤◌}
 use Rattle.meaning.specs.Region.{tables_of}
 use Rattle.memory.proofs.Columns.{Gathered}
 use Rattle.memory.proofs.estimate.Aims.gather.Given as goal

@@ -1,7 +1,5 @@
-use mathlib.Core.Path.{◌≡◌, refl, ap, ◌∙◌}
+use mathlib.Core.Path.{◌≡◌, refl}
 use native.Mathlib.Omega.{arith}
-use Rattle.meaning.specs.Straight.{root}
-use Rattle.straight.proofs.Laws.{root_small}
 use Rattle.memory.specs.Aim.{least_to, line_to}
 use Rattle.memory.proofs.Closest.{least_next, line_none, line_found}
 use Rattle.memory.proofs.estimate.Aims.line_from.Goals as goal
@@ -13,7 +11,7 @@ loop-j-init c = (refl, omega arith)
 pub loop-j-preserved : goal.loop-j-preserved
 loop-j-preserved c =
     let l = c.loop-j in
-    least_next c.args.r.now.sound.ground c.requires.aims c.args.v l.j c.requires.n_in_bounds.1 c.loop-j-test.true l.invariant.0 l.invariant.1
+    least_next c.args.r.now.sound.ground c.requires.aims c.args.v l.j c.requires.v_in_bounds c.loop-j-test.true l.invariant.0 l.invariant.1
     c.closer-best.ensures
 
 pub returns-then-best-eq-BEYOND : goal.returns-then-best-eq-BEYOND
@@ -26,13 +24,11 @@ returns-then-best-eq-BEYOND c =
 pub overflow_cast-result : goal.overflow_cast-result
 overflow_cast-result c =
     let l = c.loop-j in
-    let h = line_found l.best _ l.invariant.0 l.invariant.1 c.if-best-eq-BEYOND.false in
-    omega (arith, c.root.ensures, root_small l.best h.1)
+    omega (arith, (line_found _ l.invariant.0 l.invariant.1 c.if-best-eq-BEYOND.false c.root.ensures).1)
 
 pub returns : goal.returns
 unfolding line_to
 returns c =
     let l = c.loop-j in
     let i : l.j ≡ c.args.r.now.tables.s = omega arith in
-    let h = line_found l.best _ l.invariant.0 l.invariant.1 c.if-best-eq-BEYOND.false in
-    (c.root.ensures ∙ ap root (rw i at h.0), omega (arith, c.root.ensures, root_small l.best h.1))
+    rw i at (line_found _ l.invariant.0 l.invariant.1 c.if-best-eq-BEYOND.false c.root.ensures)
