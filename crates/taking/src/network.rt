@@ -16,9 +16,9 @@ pub struct Network<'a> {
     ghost linked: { Linked (tables_of region.tables) starts nexts },
 }
 
-impl Network<'_> {
+impl<'a> Network<'a> {
     // The last arc is linked first.
-    pub fn link<'a>(region: Region<'a>) -> Network<'a>
+    pub fn link(region: Region<'a>) -> Self
         ensures { result.region ≡ region.entry }
     {
         let t = region.tables;
