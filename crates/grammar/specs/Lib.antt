@@ -1,2 +1,3 @@
--- what a plain line says
+-- a line by what its fields were read as, and what a plain line says
+pub mod Fields
 pub mod Plain

@@ -1,197 +1,103 @@
 // What a line of each of the three texts says.
 #![tactic(auto)]
 
-ghost use Rattle.std.specs.Prelude.{◌≡◌};
-ghost use Rattle.meaning.specs.Text.{fields};
-ghost use Rattle.meaning.specs.Grammar.{last_number, last_signed, aux_count, graph_counts, point_counts, site_counts, problem_of, arc_data, point_data, site_data, data_of, line_of};
+ghost use Rattle.std.specs.Prelude.{◌≡◌, true, false, MatchOption};
+ghost use Rattle.meaning.specs.Text.{fields, first, others};
+ghost use Rattle.meaning.specs.Grammar.{aux_count, problem_of, data_of, line_of, word_a, word_v, word_s};
 ghost use Rattle.meaning.specs.declared.Kind.TheVariants.{Graph, Coordinates, Sites};
+ghost use Rattle.grammar.specs.Fields.{IsNext, IsLast, problem_line, data_line};
 
-use meaning::{Counts, Entry, Kind, Line, Number, Signed};
-pub use plain::{arc_at, point_at, site_at};
+use meaning::{Counts, Entry, Kind, Line};
+pub use plain::{Plain, plain_at};
 
 mod plain;
 
-// A number, and no field after it.
-fn last_number(rest: &[u8]) -> Number
-    ensures { result ≡ last_number (fields rest.now) }
+// What follows the word w, if that is the next field.
+fn past<'a>(rest: &'a [u8], w: &[u8]) -> Option<&'a [u8]>
+    ensures { MatchOption result (IsNext w.now rest.now false)
+        (λ r. IsNext w.now rest.now true × (fields r.now ≡ others (fields rest.now))) }
 {
-    if text::ended(text::after(rest)) {
-        text::number(text::word(rest))
-    } else {
-        Number::NoNumber
-    }
+    text::same(text::word(rest), w).then(|| text::after(rest))
 }
 
-// A coordinate, and no field after it.
-fn last_signed(rest: &[u8]) -> Signed
-    ensures { result ≡ last_signed (fields rest.now) }
+// The next field, if no field is after it.
+fn last(rest: &[u8]) -> Option<&[u8]>
+    ensures { MatchOption result (IsLast rest.now false)
+        (λ f. IsLast rest.now true × (f.now ≡ first (fields rest.now))) }
 {
-    if text::ended(text::after(rest)) {
-        text::signed(text::word(rest))
-    } else {
-        Signed::NoCoordinate
-    }
+    text::ended(text::after(rest)).then(|| text::word(rest))
 }
 
 // aux, sp and a third word, then one number and no more.
-fn aux_count(rest: &[u8], third: &[u8]) -> Number
+fn aux_count(rest: &[u8], third: &[u8]) -> Option<usize>
     ensures { result ≡ aux_count third.now (fields rest.now) }
 {
-    if !text::same(text::word(rest), b"aux") {
-        return Number::NoNumber;
-    }
-    let second = text::after(rest);
-    if !text::same(text::word(second), b"sp") {
-        return Number::NoNumber;
-    }
-    let last = text::after(second);
-    if text::same(text::word(last), third) {
-        last_number(text::after(last))
-    } else {
-        Number::NoNumber
-    }
+    let second = past(rest, b"aux")?;
+    let word = past(second, b"sp")?;
+    let count = past(word, third)?;
+    text::number(last(count)?)
 }
 
-fn graph_counts(n: Number, m: Number) -> Line
-    ensures { result ≡ graph_counts n m }
+// sp N M
+fn graph_counts(given: usize, rest: &[u8]) -> Option<Counts>
+    ensures { problem_line result ≡ problem_of Graph given (fields rest.now) }
 {
-    let Number::Value(nodes) = n else {
-        return Line::Malformed;
-    };
-    match m {
-        Number::Value(rows) => Line::Problem(Counts { nodes, rows }),
-        Number::NoNumber => Line::Malformed,
-    }
-}
-
-fn point_counts(n: Number) -> Line
-    ensures { result ≡ point_counts n }
-{
-    match n {
-        Number::Value(nodes) => Line::Problem(Counts { nodes, rows: nodes }),
-        Number::NoNumber => Line::Malformed,
-    }
-}
-
-fn site_counts(given: usize, s: Number) -> Line
-    ensures { result ≡ site_counts given s }
-{
-    match s {
-        Number::Value(rows) => Line::Problem(Counts { nodes: given, rows }),
-        Number::NoNumber => Line::Malformed,
-    }
-}
-
-fn graph_problem(given: usize, rest: &[u8]) -> Line
-    ensures { result ≡ problem_of Graph given (fields rest.now) }
-{
-    if text::same(text::word(rest), b"sp") {
-        let second = text::after(rest);
-        let n = text::number(text::word(second));
-        let m = last_number(text::after(second));
-        graph_counts(n, m)
-    } else {
-        Line::Malformed
-    }
+    let counts = past(rest, b"sp")?;
+    let nodes = text::number(text::word(counts))?;
+    let rows = text::number(last(text::after(counts))?)?;
+    Some(Counts { nodes, rows })
 }
 
 // The fields of a problem line after p.
-fn problem_of(kind: Kind, given: usize, rest: &[u8]) -> Line
-    ensures { result ≡ problem_of kind given (fields rest.now) }
+fn problem_of(kind: Kind, given: usize, rest: &[u8]) -> Option<Counts>
+    ensures { problem_line result ≡ problem_of kind given (fields rest.now) }
 {
     match kind {
-        Kind::Graph => graph_problem(given, rest),
-        Kind::Coordinates => point_counts(aux_count(rest, b"co")),
-        Kind::Sites => site_counts(given, aux_count(rest, b"ss")),
+        Kind::Graph => graph_counts(given, rest),
+        Kind::Coordinates => aux_count(rest, b"co").map(|nodes| Counts { nodes, rows: nodes }),
+        Kind::Sites => aux_count(rest, b"ss").map(|rows| Counts { nodes: given, rows }),
     }
 }
 
-fn arc_data(u: Number, v: Number, w: Number) -> Line
-    ensures { result ≡ arc_data u v w }
+// U V W
+fn arc_of(rest: &[u8]) -> Option<Entry>
+    ensures { data_line result ≡ data_of Graph word_a (fields rest.now) }
 {
-    let Number::Value(tail) = u else {
-        return Line::Malformed;
-    };
-    let Number::Value(head) = v else {
-        return Line::Malformed;
-    };
-    match w {
-        Number::Value(weight) => Line::Data(Entry::Arc { tail, head, weight }),
-        Number::NoNumber => Line::Malformed,
-    }
+    let second = text::after(rest);
+    let tail = text::number(text::word(rest))?;
+    let head = text::number(text::word(second))?;
+    let weight = text::number(last(text::after(second))?)?;
+    Some(Entry::Arc { tail, head, weight })
 }
 
-fn point_data(id: Number, x: Signed, y: Signed) -> Line
-    ensures { result ≡ point_data id x y }
+// ID X Y
+fn point_of(rest: &[u8]) -> Option<Entry>
+    ensures { data_line result ≡ data_of Coordinates word_v (fields rest.now) }
 {
-    let Number::Value(node) = id else {
-        return Line::Malformed;
-    };
-    let Signed::At(a) = x else {
-        return Line::Malformed;
-    };
-    match y {
-        Signed::At(b) => Line::Data(Entry::Point { node, x: a, y: b }),
-        Signed::NoCoordinate => Line::Malformed,
-    }
+    let second = text::after(rest);
+    let node = text::number(text::word(rest))?;
+    let x = text::signed(text::word(second))?;
+    let y = text::signed(last(text::after(second))?)?;
+    Some(Entry::Point { node, x, y })
 }
 
-fn site_data(id: Number) -> Line
-    ensures { result ≡ site_data id }
+// ID
+fn site_of(rest: &[u8]) -> Option<Entry>
+    ensures { data_line result ≡ data_of Sites word_s (fields rest.now) }
 {
-    match id {
-        Number::Value(node) => Line::Data(Entry::Site { node }),
-        Number::NoNumber => Line::Malformed,
-    }
+    let node = text::number(last(rest)?)?;
+    Some(Entry::Site { node })
 }
 
-// U V W, after the first word of the line.
-fn arc_fields(w: &[u8], rest: &[u8]) -> Line
-    ensures { result ≡ data_of Graph w.now (fields rest.now) }
-{
-    if text::same(w, b"a") {
-        let second = text::after(rest);
-        let u = text::number(text::word(rest));
-        let v = text::number(text::word(second));
-        arc_data(u, v, last_number(text::after(second)))
-    } else {
-        Line::Malformed
-    }
-}
-
-// ID X Y.
-fn point_fields(w: &[u8], rest: &[u8]) -> Line
-    ensures { result ≡ data_of Coordinates w.now (fields rest.now) }
-{
-    if text::same(w, b"v") {
-        let second = text::after(rest);
-        let id = text::number(text::word(rest));
-        let x = text::signed(text::word(second));
-        point_data(id, x, last_signed(text::after(second)))
-    } else {
-        Line::Malformed
-    }
-}
-
-// ID.
-fn site_fields(w: &[u8], rest: &[u8]) -> Line
-    ensures { result ≡ data_of Sites w.now (fields rest.now) }
-{
-    if text::same(w, b"s") {
-        site_data(last_number(rest))
-    } else {
-        Line::Malformed
-    }
-}
-
-// The fields of a data line after its first word w.
-fn data_of(kind: Kind, w: &[u8], rest: &[u8]) -> Line
-    ensures { result ≡ data_of kind w.now (fields rest.now) }
+// The fields of a data line after its first word.
+fn data_of(kind: Kind, word: &[u8], rest: &[u8]) -> Option<Entry>
+    ensures { data_line result ≡ data_of kind word.now (fields rest.now) }
 {
     match kind {
-        Kind::Graph => arc_fields(w, rest),
-        Kind::Coordinates => point_fields(w, rest),
-        Kind::Sites => site_fields(w, rest),
+        Kind::Graph if text::same(word, b"a") => arc_of(rest),
+        Kind::Coordinates if text::same(word, b"v") => point_of(rest),
+        Kind::Sites if text::same(word, b"s") => site_of(rest),
+        _ => None,
     }
 }
 
@@ -202,13 +108,14 @@ pub fn line_of(kind: Kind, given: usize, line: &[u8]) -> Line
     if text::ended(line) {
         return Line::Nothing;
     }
-    let w = text::word(line);
-    if text::same(w, b"c") {
+    let word = text::word(line);
+    if text::same(word, b"c") {
         return Line::Nothing;
     }
-    if text::same(w, b"p") {
-        problem_of(kind, given, text::after(line))
+    let rest = text::after(line);
+    if text::same(word, b"p") {
+        problem_of(kind, given, rest).map_or(Line::Malformed, Line::Problem)
     } else {
-        data_of(kind, w, text::after(line))
+        data_of(kind, word, rest).map_or(Line::Malformed, Line::Data)
     }
 }

@@ -1,221 +1,140 @@
-// Data lines in their plain form, read in one go: the word, one space, the numbers with one space between them, LF. What isn't plain is left to `line_of`.
-ghost use Rattle.std.specs.Prelude.{◌≡◌, ◌<◌, ◌≤◌, length};
-ghost use Rattle.grammar.specs.Plain.{ArcSaid, PointSaid, SiteSaid, DigitsSaid, CoordinateSaid, Reached, Closed, MinusSaid, StartSaid};
+// Data lines in their plain form, read in one go: the word, one space, the numbers with one space
+// between them, LF. What isn't plain is left to `line_of`.
+ghost use Rattle.std.specs.Prelude.{◌≡◌, ◌<◌, ◌≤◌, length, IfSome};
+ghost use Rattle.grammar.specs.Plain.{Says, Starts, DigitsSaid, CoordinateSaid};
+ghost use Rattle.meaning.specs.declared.Kind.TheVariants.{Graph, Coordinates, Sites};
 
-// A number, and where what follows it starts: 0 where no number stands there.
+use meaning::{Entry, Kind};
+
+// What a plain line says, and where the next line starts.
 #[derive(Clone, Copy)]
-struct Unsigned {
-    value: usize,
+pub struct Plain {
+    pub entry: Entry,
+    pub next: usize,
+}
+
+// A number that was read, and where what follows it starts.
+#[derive(Clone, Copy)]
+struct Field<T> {
+    value: T,
     next: usize,
-}
-
-#[derive(Clone, Copy)]
-struct WithSign {
-    value: i32,
-    next: usize,
-}
-
-// A line's numbers, and where the next line starts: 0 where the line isn't plain.
-#[derive(Clone, Copy)]
-pub struct PlainArc {
-    pub tail: usize,
-    pub head: usize,
-    pub weight: usize,
-    pub next: usize,
-}
-
-#[derive(Clone, Copy)]
-pub struct PlainPoint {
-    pub node: usize,
-    pub x: i32,
-    pub y: i32,
-    pub next: usize,
-}
-
-#[derive(Clone, Copy)]
-pub struct PlainSite {
-    pub node: usize,
-    pub next: usize,
-}
-
-// How far the digits may go that start at a position: ten of them would be too many.
-fn reach(text: &[u8], at: usize) -> usize
-    requires { at ≤ length text.now }
-    ensures { Reached text.now at result }
-{
-    let most = at + 10;
-    if text.len() < most { text.len() } else { most }
-}
-
-// The digits from a position to a byte that is none.
-fn closed(value: usize, at: usize, i: usize, ends: bool) -> Unsigned
-    requires { i < 18446744073709551615 }
-    ensures { Closed value at i ends result.value result.next }
-{
-    if !ends {
-        return Unsigned { value: 0, next: 0 };
-    }
-    if i == at {
-        return Unsigned { value: 0, next: 0 };
-    }
-    Unsigned { value, next: i + 1 }
 }
 
 // One to nine digits, and the byte `end` after them.
-fn digits(text: &[u8], at: usize, end: u8) -> Unsigned
+#[inline]
+fn digits(text: &[u8], at: usize, end: u8) -> Option<Field<usize>>
     requires { at ≤ length text.now }
-    ensures { DigitsSaid text.now at end result.value result.next }
+    ensures { IfSome result (λ f. DigitsSaid text.now at end f.value f.next) }
 {
-    let most = reach(text, at);
-    let mut value: usize = 0;
-    let mut i = at;
-    while i < most {
-        let b = text[i];
-        let digit = std::num::wrapping_sub_u8(b, 48);
+    // Ten digits would be too many.
+    let most = text.len().min(at + 10);
+    let mut value = 0;
+    for i in at..most {
+        let byte = text[i];
+        let digit = byte.wrapping_sub(b'0');
         let ends = 9 < digit;
         if ends {
-            return closed(value, at, i, b == end);
+            if byte != end || i == at {
+                return None;
+            }
+            return Some(Field { value, next: i + 1 });
         }
-        value = value * 10 + digit as usize;
-        i += 1;
+        value = value * 10 + usize::from(digit);
     }
-    Unsigned { value: 0, next: 0 }
-}
-
-fn is_minus(text: &[u8], at: usize) -> bool
-    ensures { MinusSaid text.now at result }
-{
-    if text.len() <= at {
-        return false;
-    }
-    text[at] == 45
+    None
 }
 
 // The same, with or without a minus sign before the digits.
-fn coordinate(text: &[u8], at: usize, end: u8) -> WithSign
+#[inline]
+fn coordinate(text: &[u8], at: usize, end: u8) -> Option<Field<i32>>
     requires { at ≤ length text.now }
-    ensures { CoordinateSaid text.now at end result.value result.next }
+    ensures { IfSome result (λ f. CoordinateSaid text.now at end f.value f.next) }
 {
-    if is_minus(text, at) {
-        let size = digits(text, at + 1, end);
-        let value = size.value as i32;
-        return WithSign {
-            value: 0 - value,
+    if let [b'-', ..] = &text[at..] {
+        let size = digits(text, at + 1, end)?;
+        return Some(Field {
+            value: -(size.value as i32),
             next: size.next,
-        };
+        });
     }
-    let size = digits(text, at, end);
-    WithSign {
+    let size = digits(text, at, end)?;
+    Some(Field {
         value: size.value as i32,
         next: size.next,
-    }
+    })
 }
 
-// Whether the word w and a space start a line.
-fn starts(text: &[u8], at: usize, w: u8) -> bool
+// Where the numbers of a line start, if the word w and a space stand before them.
+#[inline]
+fn numbers(text: &[u8], at: usize, w: u8) -> Option<usize>
     requires { at ≤ length text.now }
-    ensures { StartSaid text.now at w result }
+    ensures { IfSome result (Starts text.now at w) }
 {
-    if text.len() - at < 2 {
-        return false;
+    match &text[at..] {
+        [first, b' ', ..] if *first == w => Some(at + 2),
+        _ => None,
     }
-    if text[at] != w {
-        return false;
-    }
-    text[at + 1] == 32
 }
 
 // a U V W
-pub fn arc_at(text: &[u8], at: usize) -> PlainArc
+fn arc_at(text: &[u8], at: usize) -> Option<Plain>
     requires { at ≤ length text.now }
-    ensures { ArcSaid text.now at result.tail result.head result.weight result.next }
+    ensures { IfSome result (λ p. Says Graph text.now at p.entry p.next) }
 {
-    if !starts(text, at, 97) {
-        return PlainArc {
-            tail: 0,
-            head: 0,
-            weight: 0,
-            next: 0,
-        };
-    }
-    let u = digits(text, at + 2, 32);
-    if u.next == 0 {
-        return PlainArc {
-            tail: 0,
-            head: 0,
-            weight: 0,
-            next: 0,
-        };
-    }
-    let v = digits(text, u.next, 32);
-    if v.next == 0 {
-        return PlainArc {
-            tail: 0,
-            head: 0,
-            weight: 0,
-            next: 0,
-        };
-    }
-    let w = digits(text, v.next, 10);
-    PlainArc {
-        tail: u.value,
-        head: v.value,
-        weight: w.value,
-        next: w.next,
-    }
+    let from = numbers(text, at, b'a')?;
+    let tail = digits(text, from, b' ')?;
+    let head = digits(text, tail.next, b' ')?;
+    let weight = digits(text, head.next, b'\n')?;
+    Some(Plain {
+        entry: Entry::Arc {
+            tail: tail.value,
+            head: head.value,
+            weight: weight.value,
+        },
+        next: weight.next,
+    })
 }
 
 // v ID X Y
-pub fn point_at(text: &[u8], at: usize) -> PlainPoint
+fn point_at(text: &[u8], at: usize) -> Option<Plain>
     requires { at ≤ length text.now }
-    ensures { PointSaid text.now at result.node result.x result.y result.next }
+    ensures { IfSome result (λ p. Says Coordinates text.now at p.entry p.next) }
 {
-    if !starts(text, at, 118) {
-        return PlainPoint {
-            node: 0,
-            x: 0,
-            y: 0,
-            next: 0,
-        };
-    }
-    let id = digits(text, at + 2, 32);
-    if id.next == 0 {
-        return PlainPoint {
-            node: 0,
-            x: 0,
-            y: 0,
-            next: 0,
-        };
-    }
-    let x = coordinate(text, id.next, 32);
-    if x.next == 0 {
-        return PlainPoint {
-            node: 0,
-            x: 0,
-            y: 0,
-            next: 0,
-        };
-    }
-    let y = coordinate(text, x.next, 10);
-    PlainPoint {
-        node: id.value,
-        x: x.value,
-        y: y.value,
+    let from = numbers(text, at, b'v')?;
+    let node = digits(text, from, b' ')?;
+    let x = coordinate(text, node.next, b' ')?;
+    let y = coordinate(text, x.next, b'\n')?;
+    Some(Plain {
+        entry: Entry::Point {
+            node: node.value,
+            x: x.value,
+            y: y.value,
+        },
         next: y.next,
-    }
+    })
 }
 
 // s ID
-pub fn site_at(text: &[u8], at: usize) -> PlainSite
+fn site_at(text: &[u8], at: usize) -> Option<Plain>
     requires { at ≤ length text.now }
-    ensures { SiteSaid text.now at result.node result.next }
+    ensures { IfSome result (λ p. Says Sites text.now at p.entry p.next) }
 {
-    if !starts(text, at, 115) {
-        return PlainSite { node: 0, next: 0 };
-    }
-    let id = digits(text, at + 2, 10);
-    PlainSite {
-        node: id.value,
-        next: id.next,
+    let from = numbers(text, at, b's')?;
+    let node = digits(text, from, b'\n')?;
+    Some(Plain {
+        entry: Entry::Site { node: node.value },
+        next: node.next,
+    })
+}
+
+// What the data line of a text of that kind that starts at a position says, if it is plain.
+pub fn plain_at(kind: Kind, text: &[u8], at: usize) -> Option<Plain>
+    requires { at ≤ length text.now }
+    ensures { IfSome result (λ p. Says kind text.now at p.entry p.next) }
+{
+    match kind {
+        Kind::Graph => arc_at(text, at),
+        Kind::Coordinates => point_at(text, at),
+        Kind::Sites => site_at(text, at),
     }
 }

@@ -1,10 +1,11 @@
 -- "After an accepted reading the first entries hold the data .. and later entries are unchanged", for arcs and sites.
 use Prim.Native.Nat.{ℕ, ◌+◌, ◌-◌, min, ◌≤◌, ◌<◌}
-use mathlib.Core.Path.{◌≡◌, refl, ◌∙◌, ap}
+use mathlib.Core.Path.{◌≡◌, sym, ◌∙◌, ap}
 use mathlib.Core.List.{List, map}
 use lib.ListN.{length, drop, get_or, length-map, length-append, length-drop, get_or-append, get_or-map}
 use lib.Seq.{get_or-append-add, get_or-drop}
 use native.Mathlib.Omega.{arith}
+use Rattle.std.specs.Prelude.{Ok}
 use Rattle.meaning.specs.Text.{lines}
 use Rattle.meaning.specs.Files.{Reading, refused, read, reading, answered, in_front, node_of, head_of, weight_of, graph_rules, site_rules, graph_reading, site_reading, GraphRead, SitesRead}
 use Rattle.meaning.specs.declared.Limits.{Limits}
@@ -12,7 +13,6 @@ use Rattle.meaning.specs.declared.Kind.TheVariants.{Graph, Sites}
 use Rattle.meaning.specs.declared.Rules.{Rules}
 use Rattle.meaning.specs.declared.Counts.{Counts}
 use Rattle.meaning.specs.declared.Entry.{Entry}
-use Rattle.meaning.specs.declared.Read.TheVariants.{Accepted}
 use Rattle.meaning.proofs.Reading.{entries_of, accepted}
 
 -- a table at exit: one value of each of the m entries in front, in order, and the rest as it was
@@ -56,34 +56,31 @@ in_order_lem value R text c es xs h l =
 
 -- ---- what an accepted answer of a reader says of its tables
 
-pub record WasRead (r : Reading) (n m : ℕ) : Type 0 where
-  pub counts : Counts
+pub record WasRead (r : Reading) (c : Counts) : Type 0 where
   pub entries : List Entry
-  pub nodes : counts.nodes ≡ n
-  pub rows : counts.rows ≡ m
-  pub was : r ≡ read counts entries
+  pub was : r ≡ read c entries
 
-pub was_read : (r : Reading) (n m : ℕ) → Accepted n m ≡ answered r → WasRead r n m
-was_read (refused number place) n m h = let z : ◌≡◌ {A = ℕ} 0 1 = cc in absurd (omega arith)
-was_read (read c es) n m h = record { counts = c; entries = es; nodes = cc; rows = cc; was = refl }
+pub was_read : (r : Reading) (c : Counts) → Ok c ≡ answered r → WasRead r c
+was_read (refused fault place) c h = let z : ◌≡◌ {A = ℕ} 0 1 = cc in absurd (omega arith)
+was_read (read d es) c h = let e : c ≡ d = cc in record { entries = es; was = ap (λ (x : Counts). read x es) (sym e) }
 
 pub record GraphHeld (text t h w t' h' w' : List ℕ) (m : ℕ) : Type 0 where
   pub tails : InOrder node_of m (entries_of Graph 0 (lines text)) t t'
   pub heads : InOrder head_of m (entries_of Graph 0 (lines text)) h h'
   pub weights : InOrder weight_of m (entries_of Graph 0 (lines text)) w w'
 
-pub graph_accepted : {L : Limits} {text t h w t' h' w' : List ℕ} {n m : ℕ} → GraphRead L text t h w t' h' w' (Accepted n m) → GraphHeld text t h w t' h' w' m
-graph_accepted {L} {text} {t} {h} {w} {n} {m} g =
-    let k = was_read (graph_reading L text t h w) n m g.answer_is in
+pub graph_accepted : {L : Limits} {text t h w t' h' w' : List ℕ} {c : Counts} → GraphRead L text t h w t' h' w' (Ok c) → GraphHeld text t h w t' h' w' c.rows
+graph_accepted {L} {text} {t} {h} {w} {c = c} g =
+    let k = was_read (graph_reading L text t h w) c g.answer_is in
     let R : Rules = graph_rules L (min (length t) (min (length h) (length w))) in
-    rw (g.tails_are, g.heads_are, g.weights_are, ← k.rows) record {
-      tails = in_order_lem node_of R text k.counts k.entries t k.was (omega arith);
-      heads = in_order_lem head_of R text k.counts k.entries h k.was (omega arith);
-      weights = in_order_lem weight_of R text k.counts k.entries w k.was (omega arith);
+    rw (g.tails_are, g.heads_are, g.weights_are) record {
+      tails = in_order_lem node_of R text c k.entries t k.was (omega arith);
+      heads = in_order_lem head_of R text c k.entries h k.was (omega arith);
+      weights = in_order_lem weight_of R text c k.entries w k.was (omega arith);
     }
 
-pub sites_accepted : {L : Limits} {text : List ℕ} {n : ℕ} {s s' : List ℕ} {a m : ℕ} → SitesRead L text n s s' (Accepted a m)
-    → InOrder node_of m (entries_of Sites n (lines text)) s s'
-sites_accepted {L} {text} {n} {s} {a} {m} g =
-    let k = was_read (site_reading L text n s) a m g.answer_is in
-    rw (g.sites_are, ← k.rows) (in_order_lem node_of (site_rules L n (length s)) text k.counts k.entries s k.was (omega arith))
+pub sites_accepted : {L : Limits} {text : List ℕ} {n : ℕ} {s s' : List ℕ} {c : Counts} → SitesRead L text n s s' (Ok c)
+    → InOrder node_of c.rows (entries_of Sites n (lines text)) s s'
+sites_accepted {L} {text} {n} {s} {c = c} g =
+    let k = was_read (site_reading L text n s) c g.answer_is in
+    rw g.sites_are (in_order_lem node_of (site_rules L n (length s)) text c k.entries s k.was (omega arith))

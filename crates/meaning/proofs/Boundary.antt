@@ -10,27 +10,26 @@ use lib.Dec.{leb, eqb}
 use lib.IntN.{ℤ}
 use lib.ListN.{length, get_or, take, drop, length-drop}
 use lib.Seq.{length-take-le}
-use Rattle.meaning.specs.Limits.{base}
+use Rattle.std.specs.Prelude.{Result, Ok, Err}
+use Rattle.meaning.specs.Limits.{base, fault_number, refusal}
 use Rattle.meaning.specs.Files.{most_rows, Reading, refused, read, reading, answered, graph_rules, coordinate_rules, site_rules, GraphRead, CoordinatesRead, SitesRead}
 use Rattle.meaning.specs.Region.{Tables, Rooms}
-use Rattle.meaning.specs.Checks.{inspect}
-use Rattle.meaning.specs.Search.{aim_of, judged, Searched, begin_of, stretch}
+use Rattle.meaning.specs.Checks.{Verdict, inspect}
+use Rattle.meaning.specs.Search.{Answer, aim_of, judged, Searched, begin_of, stretch}
 use Rattle.meaning.specs.Boundary.{field, packed, number_of, first_of, second_of, read_code, answer_code, RefusalFits, ReadFits, AnswerFits, GraphCalled, CoordinatesCalled, SitesCalled, SearchCalled, PanelCalled, stretch_at, stretch_code}
 use Rattle.meaning.specs.declared.Limits.{Limits}
+use Rattle.meaning.specs.declared.Fault.{Fault}
+use Rattle.meaning.specs.declared.Refusal.{Refusal}
+use Rattle.meaning.specs.declared.Counts.{Counts}
+use Rattle.meaning.specs.declared.Tally.{Tally}
 use Rattle.meaning.specs.declared.Rules.{Rules}
-use Rattle.meaning.specs.declared.Read.{Read}
-use Rattle.meaning.specs.declared.Read.TheVariants.{Refused, Accepted}
-use Rattle.meaning.specs.declared.Verdict.{Verdict}
-use Rattle.meaning.specs.declared.Verdict.TheVariants.{Fine, Faulty}
-use Rattle.meaning.specs.declared.Answer.{Answer}
-use Rattle.meaning.specs.declared.Answer.TheVariants.{Denied, Listed}
 use Rattle.meaning.proofs.Tests.{both}
 use Rattle.meaning.proofs.Reading.{accepted}
 use Rattle.meaning.proofs.Unique.{graph_unique, coordinates_unique, sites_unique}
 use Rattle.meaning.proofs.Passed.{sound}
 use Rattle.meaning.proofs.Outcomes.{searched_unique, aim_fits}
 use Rattle.meaning.proofs.Demands.{count_most}
-use Rattle.meaning.proofs.Places.{At, ReadAt, reading_at, FaultAt, inspect_at}
+use Rattle.meaning.proofs.Places.{same_fault, At, ReadAt, reading_at, FaultAt, inspect_at}
 
 -- ---- one number for three parts
 
@@ -45,62 +44,59 @@ pub parts : (number first second : ℕ) → number < 256 → first < field → s
 parts number first second a b c = record { fits = omega arith; number_is = omega arith; first_is = omega arith; second_is = omega arith }
 
 -- so no two answers that have room in it have the same number
-pub same_read : (a b : Read) → ReadFits a → ReadFits b → read_code a ≡ read_code b → a ≡ b
-same_read (Refused n p) (Refused m q) f g e =
-    let x : n ≡ m = omega arith in
-    let y : p ≡ q = omega arith in
-    cc
-same_read (Refused n p) (Accepted m q) f g e = absurd (omega arith)
-same_read (Accepted n p) (Refused m q) f g e = absurd (omega arith)
-same_read (Accepted n p) (Accepted m q) f g e =
-    let x : n ≡ m = omega arith in
-    let y : p ≡ q = omega arith in
-    cc
+same_refusal : (a b : Refusal) → fault_number a.fault ≡ fault_number b.fault → a.place ≡ b.place → a ≡ b
+same_refusal a b h k = ap (λ (f : Fault). refusal f a.place) (same_fault a.fault b.fault h) ∙ ap (refusal b.fault) k
+
+pub same_read : (a b : Result Counts Refusal) → ReadFits a → ReadFits b → read_code a ≡ read_code b → a ≡ b
+same_read (Err r) (Err s) f g e = ap (λ (x : Refusal). Err x) (same_refusal r s (omega arith) (omega arith))
+same_read (Err r) (Ok d) f g e = absurd (omega arith)
+same_read (Ok c) (Err s) f g e = absurd (omega arith)
+same_read (Ok c) (Ok d) f g e = ap (λ (x : Counts). Ok x) (same (omega arith) (omega arith))
+  where
+    same : c.nodes ≡ d.nodes → c.rows ≡ d.rows → c ≡ d
+    same h k = ap (λ (n : ℕ). record { nodes = n; rows = c.rows }) h ∙ ap (λ (m : ℕ). record { nodes = d.nodes; rows = m }) k
 
 pub same_answer : (a b : Answer) → AnswerFits a → AnswerFits b → answer_code a ≡ answer_code b → a ≡ b
-same_answer (Denied n p) (Denied m q) f g e =
-    let x : n ≡ m = omega arith in
-    let y : p ≡ q = omega arith in
-    cc
-same_answer (Denied n p) (Listed m q) f g e = absurd (omega arith)
-same_answer (Listed n p) (Denied m q) f g e = absurd (omega arith)
-same_answer (Listed n p) (Listed m q) f g e =
-    let x : n ≡ m = omega arith in
-    let y : p ≡ q = omega arith in
-    cc
+same_answer (Err r) (Err s) f g e = ap (λ (x : Refusal). Err x) (same_refusal r s (omega arith) (omega arith))
+same_answer (Err r) (Ok d) f g e = absurd (omega arith)
+same_answer (Ok c) (Err s) f g e = absurd (omega arith)
+same_answer (Ok c) (Ok d) f g e = ap (λ (x : Tally). Ok x) (same (omega arith) (omega arith))
+  where
+    same : c.sites ≡ d.sites → c.taken ≡ d.taken → c ≡ d
+    same h k = ap (λ (n : ℕ). record { sites = n; taken = c.taken }) h ∙ ap (λ (m : ℕ). record { sites = d.sites; taken = m }) k
 
 -- ---- every answer of the library has room in it
 
-refusal_fits : {most number place : ℕ} → At most number place → most < field → RefusalFits number place
+refusal_fits : {most : ℕ} {why : Refusal} → At most why → most < field → RefusalFits (fault_number why.fault) why.place
 refusal_fits a h = record { some = a.some; small = omega arith; near = omega arith }
 
 module _ (R : Rules) (text : List ℕ) (bytes : R.limits.text < field) (nodes : R.limits.nodes < field) (rows : most_rows R.limits R.kind < field) where
   answered_fits : (r : Reading) → reading R text ≡ r → ReadAt R.limits.text r → ReadFits (answered r)
-  answered_fits (refused number place) e a = refusal_fits a bytes
+  answered_fits (refused fault place) e a = refusal_fits a bytes
   answered_fits (read c es) e a = let k = accepted R text c es e in record { first_small = omega (arith, k.nodes); second_small = omega (arith, k.most) }
 
   reading_fits : ReadFits (answered (reading R text))
   reading_fits = answered_fits (reading R text) refl (reading_at R text)
 
-pub graph_fits : {text t h w t' h' w' : List ℕ} {a : Read} → GraphRead base text t h w t' h' w' a → ReadFits a
+pub graph_fits : {text t h w t' h' w' : List ℕ} {a : Result Counts Refusal} → GraphRead base text t h w t' h' w' a → ReadFits a
 graph_fits {text} {t} {h} {w} g = subst ReadFits (sym g.answer_is) (reading_fits (graph_rules base _) text (omega arith) (omega arith) (omega arith))
 
-pub coordinates_fits : {text : List ℕ} {n : ℕ} {x y x' y' : List ℤ} {a : Read} → CoordinatesRead base text n x y x' y' a → ReadFits a
+pub coordinates_fits : {text : List ℕ} {n : ℕ} {x y x' y' : List ℤ} {a : Result Counts Refusal} → CoordinatesRead base text n x y x' y' a → ReadFits a
 coordinates_fits {text} {n} g = subst ReadFits (sym g.answer_is) (reading_fits (coordinate_rules base n _) text (omega arith) (omega arith) (omega arith))
 
-pub sites_fits : {text : List ℕ} {n : ℕ} {s s' : List ℕ} {a : Read} → SitesRead base text n s s' a → ReadFits a
+pub sites_fits : {text : List ℕ} {n : ℕ} {s s' : List ℕ} {a : Result Counts Refusal} → SitesRead base text n s s' a → ReadFits a
 sites_fits {text} {n} g = subst ReadFits (sym g.answer_is) (reading_fits (site_rules base n _) text (omega arith) (omega arith) (omega arith))
 
 judged_fits : (t : Tables) (q k : ℕ) (before after : Rooms) (answer : Answer) (v : Verdict) → inspect base t q k before ≡ v → FaultAt (base.nodes + base.arcs + base.sites) v → judged v t q k before after answer
     → AnswerFits answer
-judged_fits t q k before after answer Fine e f j =
+judged_fits t q k before after answer (Ok passed) e f j =
     let S = sound base t q k before e in
     let taken = count_most S (aim_of t) (aim_fits S) in
     let most = j.listing.most in
     let n = S.nodes.1 in
     let l = S.lines.1 in
     subst AnswerFits (sym j.answer_is) record { first_small = omega arith; second_small = omega arith }
-judged_fits t q k before after answer (Faulty number place) e f j = subst AnswerFits (sym j.answer_is) (refusal_fits f (omega arith))
+judged_fits t q k before after answer (Err why) e f j = subst AnswerFits (sym j.answer_is) (refusal_fits f (omega arith))
 
 -- the search's, and with k the panel's, the panel call's
 pub search_fits : (t : Tables) (q k : ℕ) (before after : Rooms) (answer : Answer) → Searched base t q k before after answer → AnswerFits answer

@@ -4,17 +4,18 @@ use mathlib.Core.List.{List, [], ◌∷◌, map}
 use Prim.Native.Nat.{ℕ, ◌-◌, ◌*◌}
 use lib.IntN.{pos, negsuc}
 use lib.ListN.{length, replicate}
-use Rattle.meaning.specs.declared.Answer.{Answer}
-use Rattle.meaning.specs.declared.Answer.TheVariants.{Denied, Listed}
-use Rattle.meaning.specs.Limits.{base}
+use Rattle.std.specs.Prelude.{Ok, Err}
+use Rattle.meaning.specs.declared.Fault.{Fault}
+use Rattle.meaning.specs.declared.Fault.TheVariants.{ArcShort, QueryOutside, KOutside}
+use Rattle.meaning.specs.Limits.{base, refusal, and_then}
 use Rattle.meaning.specs.Scan.{any, better, first}
 use Rattle.meaning.specs.Straight.{gap, root_to, root, straight}
 use Rattle.meaning.specs.Region.{Tables, Rooms, is_site}
 use Rattle.meaning.specs.Taking.{memb, taken, is_open, aimed, least_at, to_sites, sites_of, lower, looks, relax, relax_to, take1, take_at, start, full, choose, next, after, final, taken_count}
 use Rattle.meaning.specs.Lists.{All}
 use Rattle.meaning.specs.Listing.{Stop}
-use Rattle.meaning.specs.Checks.{and_then, first_fault, or_else, point_fault, arc_fault, site_fault, inspect}
-use Rattle.meaning.specs.Search.{back_to_back, ends_after, filled, Searched}
+use Rattle.meaning.specs.Checks.{first_fault, point_fault, arc_fault, site_fault, inspect}
+use Rattle.meaning.specs.Search.{Answer, back_to_back, ends_after, filled, Searched}
 use Rattle.meaning.proofs.Trace.{arc_gives, prev, back, route, stops, list_of}
 use Rattle.meaning.proofs.Outcomes.{answer_of, rooms_after, searched_fits}
 
@@ -53,7 +54,7 @@ nines n k = record { work = replicate (4 * n) 9; sites = replicate k 9; lengths 
 -- what a case wants: a list with its taken count, or a refusal with its place
 pub data Wanted : Type 0 where
   lists : List Stop → ℕ → Wanted
-  refuses : ℕ → ℕ → Wanted
+  refuses : Fault → ℕ → Wanted
 
 pub record Case : Type 0 where
   pub tables : Tables
@@ -62,12 +63,12 @@ pub record Case : Type 0 where
   pub wanted : Wanted
 
 abbrev answer : Wanted → Answer
-answer (lists list count) = Listed (length list) count
-answer (refuses number place) = Denied number place
+answer (lists list count) = Ok (record { sites = length list; taken = count })
+answer (refuses fault place) = Err (refusal fault place)
 
 abbrev rooms : Wanted → Rooms → ℕ → Rooms
 rooms (lists list count) r n = filled r n list
-rooms (refuses number place) r n = r
+rooms (refuses fault place) r n = r
 
 -- the case's outcome is the search's
 abbrev pub Holds : Case → Type 0
@@ -98,11 +99,11 @@ cases =
     ∷ in_town 6 2 (lists (line 6 0 (6 ∷ []) ∷ []) 1)
     ∷ in_town 4 1 (lists (line 3 7 (4 ∷ 3 ∷ []) ∷ []) 2)
     ∷ in_town 3 1 (lists (line 3 0 (3 ∷ []) ∷ []) 1)
-    ∷ in_town 1 0 (refuses 12 0)
-    ∷ in_town 1 33 (refuses 12 0)
-    ∷ in_town 0 1 (refuses 11 0)
-    ∷ in_town 7 1 (refuses 11 0)
-    ∷ record { tables = town 6; query = 1; k = 1; wanted = refuses 10 4 }
+    ∷ in_town 1 0 (refuses KOutside 0)
+    ∷ in_town 1 33 (refuses KOutside 0)
+    ∷ in_town 0 1 (refuses QueryOutside 0)
+    ∷ in_town 7 1 (refuses QueryOutside 0)
+    ∷ record { tables = town 6; query = 1; k = 1; wanted = refuses ArcShort 4 }
     ∷ record { tables = diamond; query = 1; k = 1; wanted = lists (line 4 3 (1 ∷ 2 ∷ 4 ∷ []) ∷ []) 4 }
     ∷ []
 
@@ -122,7 +123,7 @@ abbrev want : Case → Outcome
 want c = record { answer = answer c.wanted; rooms = rooms c.wanted (nines c.tables.n c.k) c.tables.n }
 
 computed : map run cases ≡ map want cases
-unfolding any better first gap root_to root straight is_site memb taken is_open aimed least_at to_sites sites_of lower looks relax relax_to take1 take_at start full choose next after final taken_count and_then first_fault or_else point_fault arc_fault site_fault inspect back_to_back ends_after arc_gives prev back route stops list_of
+unfolding any better first gap root_to root straight is_site memb taken is_open aimed least_at to_sites sites_of lower looks relax relax_to take1 take_at start full choose next after final taken_count and_then first_fault point_fault arc_fault site_fault inspect back_to_back ends_after arc_gives prev back route stops list_of
 computed = refl
 
 hold : (c : Case) → run c ≡ want c → Holds c

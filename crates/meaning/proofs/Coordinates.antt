@@ -11,6 +11,7 @@ use lib.Dec.{eqb}
 use lib.IntN.{ℤ}
 use native.Mathlib.Omega.{arith}
 use borrow.Author.Tests.{eqb-true, eqb-false, eq-eqb, ne_eqb}
+use Rattle.std.specs.Prelude.{Ok}
 use Rattle.meaning.specs.Text.{lines}
 use Rattle.meaning.specs.Files.{node_of, is_given, read, put_all, by_node, x_of, y_of, coordinate_rules, coordinate_reading, CoordinatesRead}
 use Rattle.meaning.specs.declared.Limits.{Limits}
@@ -18,7 +19,6 @@ use Rattle.meaning.specs.declared.Kind.TheVariants.{Coordinates}
 use Rattle.meaning.specs.declared.Counts.{Counts}
 use Rattle.meaning.specs.declared.Entry.{Entry}
 use Rattle.meaning.specs.declared.Entry.TheVariants.{Arc, Point, Site}
-use Rattle.meaning.specs.declared.Read.TheVariants.{Accepted}
 use Rattle.meaning.proofs.Tests.{neither}
 use Rattle.meaning.proofs.Reading.{AllFine, IsOf, AllOf, Distinct, NodeFine, node_fine, entries_of, accepted}
 use Rattle.meaning.proofs.Accepted.{was_read}
@@ -140,9 +140,9 @@ each_node L text n xs ys c es h =
     }
 
 -- what an accepted answer of the reader says of its tables
-pub coordinates_accepted : {L : Limits} {text : List ℕ} {n : ℕ} {xs ys xs' ys' : List ℤ} {a m : ℕ} → CoordinatesRead L text n xs ys xs' ys' (Accepted a m)
+pub coordinates_accepted : {L : Limits} {text : List ℕ} {n : ℕ} {xs ys xs' ys' : List ℤ} {c : Counts} → CoordinatesRead L text n xs ys xs' ys' (Ok c)
     → EachNode n (entries_of Coordinates n (lines text)) xs ys xs' ys'
-coordinates_accepted {L} {text} {n} {xs} {ys} {a} {m} g =
-    let k = was_read (coordinate_reading L text n xs ys) a m g.answer_is in
-    let es = (accepted (coordinate_rules L n (min (length xs) (length ys))) text k.counts k.entries k.was).entries in
-    rw (g.xs_are, g.ys_are, k.was, ← es) (each_node L text n xs ys k.counts k.entries k.was)
+coordinates_accepted {L} {text} {n} {xs} {ys} {c = c} g =
+    let k = was_read (coordinate_reading L text n xs ys) c g.answer_is in
+    let es = (accepted (coordinate_rules L n (min (length xs) (length ys))) text c k.entries k.was).entries in
+    rw (g.xs_are, g.ys_are, k.was, ← es) (each_node L text n xs ys c k.entries k.was)

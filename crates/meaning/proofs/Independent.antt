@@ -5,10 +5,9 @@ use mathlib.Core.List.{List}
 use Prim.Native.Nat.{ℕ, ◌-◌, ◌<◌}
 use lib.Dec.{T, eqb}
 use lib.ListN.{get_or}
-use Rattle.meaning.specs.declared.Answer.{Answer}
 use Rattle.meaning.specs.Region.{Tables, Rooms, region_of, ArcOf, LeastArc, is_site}
 use Rattle.meaning.specs.Listing.{Stop, Listing}
-use Rattle.meaning.specs.Search.{filled, Found}
+use Rattle.meaning.specs.Search.{Answer, filled, Found}
 use Rattle.meaning.proofs.Arcs.{arc_tail, arc_head, arc_of}
 use Rattle.meaning.proofs.Scans.{any_of, any_is}
 use Rattle.meaning.proofs.Listings.{listing_unique}

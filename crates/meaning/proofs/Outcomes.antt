@@ -4,17 +4,15 @@ use mathlib.Core.Bool.{Bool}
 use mathlib.Core.List.{List}
 use Prim.Native.Nat.{ℕ, ◌-◌}
 use lib.ListN.{length}
+use Rattle.std.specs.Prelude.{Ok, Err}
 use Rattle.meaning.specs.declared.Limits.{Limits}
-use Rattle.meaning.specs.declared.Verdict.{Verdict}
-use Rattle.meaning.specs.declared.Verdict.TheVariants.{Fine, Faulty}
-use Rattle.meaning.specs.declared.Answer.{Answer}
-use Rattle.meaning.specs.declared.Answer.TheVariants.{Denied, Listed}
+use Rattle.meaning.specs.declared.Tally.{Tally}
 use Rattle.meaning.specs.Straight.{straight}
 use Rattle.meaning.specs.Region.{Tables, Rooms, region_of, x_at, y_at, LeastArc, is_site}
 use Rattle.meaning.specs.Taking.{taken_count}
 use Rattle.meaning.specs.Listing.{Stop, Listing}
-use Rattle.meaning.specs.Checks.{inspect}
-use Rattle.meaning.specs.Search.{filled, aim_of, judged, Searched}
+use Rattle.meaning.specs.Checks.{Verdict, inspect}
+use Rattle.meaning.specs.Search.{filled, aim_of, Answer, judged, Searched}
 use Rattle.meaning.proofs.Relaxing.{Estimate}
 use Rattle.meaning.proofs.Estimates.{sites_estimate, straight_measure}
 use Rattle.meaning.proofs.Trace.{list_of}
@@ -22,15 +20,19 @@ use Rattle.meaning.proofs.Listings.{listing_unique, list_right}
 use Rattle.meaning.proofs.Alike.{least_alike, listing_alike}
 use Rattle.meaning.proofs.Passed.{Sound, sound, sound_long, sound_setting}
 
+-- the counts that an accepted search answers with
+abbrev tally : Tables → ℕ → ℕ → List Stop → Tally
+tally t q k list = record { sites = length list; taken = taken_count (region_of t) (aim_of t) k (q - 1) }
+
 -- ---- no second outcome fits
 
 pub judged_unique : (v : Verdict) (t : Tables) (q k : ℕ) (r r₁ r₂ : Rooms) (a₁ a₂ : Answer) → judged v t q k r r₁ a₁ → judged v t q k r r₂ a₂ → (a₁ ≡ a₂) × (r₁ ≡ r₂)
-judged_unique Fine t q k r r₁ r₂ a₁ a₂ x y =
+judged_unique (Ok passed) t q k r r₁ r₂ a₁ a₂ x y =
     let e = listing_unique (LeastArc (region_of t)) (is_site (region_of t)) (q - 1) x.list y.list x.listing y.listing in (
-      x.answer_is ∙ ap (λ (list : List Stop). Listed (length list) (taken_count (region_of t) (aim_of t) k (q - 1))) e ∙ sym y.answer_is,
+      x.answer_is ∙ ap (λ (list : List Stop). Ok (tally t q k list)) e ∙ sym y.answer_is,
       x.rooms_are ∙ ap (filled r t.n) e ∙ sym y.rooms_are,
     )
-judged_unique (Faulty number place) t q k r r₁ r₂ a₁ a₂ x y = (x.answer_is ∙ sym y.answer_is, x.rooms_are ∙ sym y.rooms_are)
+judged_unique (Err refused) t q k r r₁ r₂ a₁ a₂ x y = (x.answer_is ∙ sym y.answer_is, x.rooms_are ∙ sym y.rooms_are)
 
 -- the search; with k the panel's, the panel call
 pub searched_unique : (L : Limits) (t : Tables) (q k : ℕ) (r r₁ r₂ : Rooms) (a₁ a₂ : Answer) → Searched L t q k r r₁ a₁ → Searched L t q k r r₂ a₂ → (a₁ ≡ a₂) × (r₁ ≡ r₂)
@@ -50,18 +52,18 @@ list_fits {t = t} {q = q} {k = k} S est fits =
     (list_right (sound_setting S est fits) k)
 
 abbrev pub answer_of : Verdict → Tables → ℕ → ℕ → Answer
-answer_of Fine t q k = Listed (length (list_of (region_of t) (aim_of t) k (q - 1))) (taken_count (region_of t) (aim_of t) k (q - 1))
-answer_of (Faulty number place) t q k = Denied number place
+answer_of (Ok passed) t q k = Ok (tally t q k (list_of (region_of t) (aim_of t) k (q - 1)))
+answer_of (Err refused) t q k = Err refused
 
 abbrev pub rooms_after : Verdict → Tables → ℕ → ℕ → Rooms → Rooms
-rooms_after Fine t q k r = filled r t.n (list_of (region_of t) (aim_of t) k (q - 1))
-rooms_after (Faulty number place) t q k r = r
+rooms_after (Ok passed) t q k r = filled r t.n (list_of (region_of t) (aim_of t) k (q - 1))
+rooms_after (Err refused) t q k r = r
 
 judged_fits : (L : Limits) (t : Tables) (q k : ℕ) (r : Rooms) (v : Verdict) → inspect L t q k r ≡ v → judged v t q k r (rooms_after v t q k r) (answer_of v t q k)
-judged_fits L t q k r Fine e =
+judged_fits L t q k r (Ok passed) e =
     let S = sound L t q k r e in
     record { list = list_of (region_of t) (aim_of t) k (q - 1); listing = list_fits S (aim_of t) (aim_fits S); answer_is = refl; rooms_are = refl }
-judged_fits L t q k r (Faulty number place) e = record { answer_is = refl; rooms_are = refl }
+judged_fits L t q k r (Err refused) e = record { answer_is = refl; rooms_are = refl }
 
 pub searched_fits : (L : Limits) (t : Tables) (q k : ℕ) (r : Rooms) → Searched L t q k r (rooms_after (inspect L t q k r) t q k r) (answer_of (inspect L t q k r) t q k)
 searched_fits L t q k r = judged_fits L t q k r (inspect L t q k r) refl

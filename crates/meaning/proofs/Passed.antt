@@ -1,59 +1,41 @@
 -- What the search's checks make sure of: an accepted region.
-use mathlib.Core.Path.{◌≡◌, refl, ap, subst, ◌∙◌}
-use mathlib.Core.Bool.{Bool, true, false, cond, ◌&&◌}
+use mathlib.Core.Path.{◌≡◌, ap, subst, ◌∙◌}
+use mathlib.Core.Bool.{Bool, true, false, ◌&&◌}
 use Prim.Native.Nat.{ℕ, zero, suc, ◌+◌, ◌-◌, ◌*◌, ◌≤◌, ◌<◌}
 use native.Mathlib.Decide.{dec_lt}
 use native.Mathlib.Omega.{arith}
-use lib.Dec.{T, T_not, leb, eqb, eqb→eq, eqb_refl}
+use lib.Dec.{T, T_not, leb, eqb, eqb_refl}
 use borrow.Author.Tests.{leb-true}
 use lib.IntN.{nat_abs}
 use lib.ListN.{get_or}
 use Rattle.meaning.specs.declared.Limits.{Limits}
+use Rattle.meaning.specs.declared.Fault.TheVariants.{CountOutside, ValueOutside, GivenTwice, TableShort, ArcShort, QueryOutside, KOutside, RoomShort}
 use Rattle.meaning.specs.declared.Entry.TheVariants.{Arc, Site}
-use Rattle.meaning.specs.declared.Verdict.{Verdict}
-use Rattle.meaning.specs.declared.Verdict.TheVariants.{Fine, Faulty}
+use Rattle.std.specs.Prelude.{Ok}
+use Rattle.meaning.specs.Limits.{Test, fine, at, refusal}
 use Rattle.meaning.specs.Files.{within, is_coordinate, entry_fault}
 use Rattle.meaning.specs.Scan.{any}
 use Rattle.meaning.specs.Straight.{squares, long_enough}
 use Rattle.meaning.specs.Region.{Tables, Rooms, region_of, x_at, y_at}
-use Rattle.meaning.specs.Checks.{need, and_then, first_fault, counts_fit, tables_fit, rooms_fit, point_fault, arc_fault, site_fault, inspect}
-use Rattle.meaning.proofs.Tests.{both, passed, failed, within_is, else_zero}
+use Rattle.meaning.specs.Checks.{first_fault, counts_fit, tables_fit, rooms_fit, point_fault, arc_fault, site_fault, inspect}
+use Rattle.meaning.proofs.Tests.{both, within_is, passed, failed, then_fine, at_fine}
 use Rattle.meaning.proofs.Reading.{ArcFine, arc_fine, NodeFine, site_fine}
 use Rattle.meaning.proofs.Scans.{any_of}
 use Rattle.meaning.proofs.Relaxing.{Estimate, Setting}
 use Rattle.meaning.proofs.Estimates.{Long}
 
--- ---- a verdict that is fine
+-- ---- tests in a row that all pass
 
-unlike : (number place : ℕ) → Faulty number place ≡ Fine → ⊥
-unlike number place e = let z : ◌≡◌ {A = ℕ} 0 1 = cc in omega arith
-
-need_fine : (b : Bool) (number : ℕ) (v : Verdict) → need b number v ≡ Fine → (b ≡ true) × (v ≡ Fine)
-need_fine true number v e = (refl, e)
-need_fine false number v e = absurd (unlike number 0 e)
-
-then_fine : (a b : Verdict) → and_then a b ≡ Fine → (a ≡ Fine) × (b ≡ Fine)
-unfolding and_then
-then_fine Fine b e = (refl, e)
-then_fine (Faulty number place) b e = absurd (unlike number place e)
-
-entry_fine : (f i : ℕ) → cond (eqb f 0) Fine (Faulty f (i + 1)) ≡ Fine → f ≡ 0
-entry_fine f i e = go (eqb f 0) (λ t. eqb→eq f 0 t) e
-  where
-    go : (b : Bool) → (T b → f ≡ 0) → cond b Fine (Faulty f (i + 1)) ≡ Fine → f ≡ 0
-    go true h z = h tt
-    go false h z = absurd (unlike f (i + 1) z)
-
-pub all_fine : (f : ℕ → ℕ) (n : ℕ) → first_fault f n ≡ Fine → (j : ℕ) → j < n → f j ≡ 0
+pub all_fine : (f : ℕ → Test) (n : ℕ) → first_fault f n ≡ Ok tt → (j : ℕ) → j < n → f j ≡ fine
 unfolding first_fault
 all_fine f zero e j l = absurd (omega arith)
-all_fine f (suc n) e j l = go (dec_lt j n) (all_fine f n (then_fine (first_fault f n) (cond (eqb (f n) 0) Fine (Faulty (f n) (n + 1))) e).0 j)
+all_fine f (suc n) e j l = go (dec_lt j n) (all_fine f n (then_fine (first_fault f n) (at (n + 1) (f n)) e).0 j)
   where
-    go : Dec (j < n) → (j < n → f j ≡ 0) → f j ≡ 0
+    go : Dec (j < n) → (j < n → f j ≡ fine) → f j ≡ fine
     go (yes z) ih = ih z
     go (no z) ih =
         let c : j ≡ n = omega arith in
-        ap f c ∙ entry_fine (f n) n (then_fine (first_fault f n) (cond (eqb (f n) 0) Fine (Faulty (f n) (n + 1))) e).1
+        ap f c ∙ at_fine (n + 1) (f n) (then_fine (first_fault f n) (at (n + 1) (f n)) e).1
 
 -- ---- an accepted region
 
@@ -75,42 +57,42 @@ pub record Sound (L : Limits) (t : Tables) (q k : ℕ) (r : Rooms) : Type 0 wher
   pub stands : (j : ℕ) → j < t.s → NodeFine t.n (get_or t.sites j 0)
   pub distinct : (i j : ℕ) → i < j → j < t.s → get_or t.sites i 0 ≡ get_or t.sites j 0 → ⊥
 
-good_point : (L : Limits) (t : Tables) (v : ℕ) → point_fault L t v ≡ 0 → (nat_abs (x_at t v) ≤ L.coordinate) × (nat_abs (y_at t v) ≤ L.coordinate)
+good_point : (L : Limits) (t : Tables) (v : ℕ) → point_fault L t v ≡ fine → (nat_abs (x_at t v) ≤ L.coordinate) × (nat_abs (y_at t v) ≤ L.coordinate)
 unfolding point_fault
 good_point L t v e =
-    let a = both (is_coordinate L (x_at t v)) (is_coordinate L (y_at t v)) (passed (is_coordinate L (x_at t v) && is_coordinate L (y_at t v)) 0 6 (omega arith) e).0 in
+    let a = both (is_coordinate L (x_at t v)) (is_coordinate L (y_at t v)) (passed (is_coordinate L (x_at t v) && is_coordinate L (y_at t v)) fine ValueOutside e).0 in
     (leb-true (nat_abs (x_at t v)) L.coordinate a.0, leb-true (nat_abs (y_at t v)) L.coordinate a.1)
 
-good_arc : (L : Limits) (t : Tables) (i : ℕ) → arc_fault L t i ≡ 0 → GoodArc L t (get_or t.tails i 0) (get_or t.heads i 0) (get_or t.weights i 0)
+good_arc : (L : Limits) (t : Tables) (i : ℕ) → arc_fault L t i ≡ fine → GoodArc L t (get_or t.tails i 0) (get_or t.heads i 0) (get_or t.weights i 0)
 unfolding arc_fault
 good_arc L t i e =
     let u = get_or t.tails i 0 in
     let v = get_or t.heads i 0 in
     let w = get_or t.weights i 0 in
-    let a = else_zero (entry_fault L t.n (Arc u v w)) _ e in
+    let a = then_fine (entry_fault L t.n (Arc u v w)) _ e in
     record {
       fine = arc_fine L t.n u v w a.0;
-      long = leb-true (squares (x_at t) (y_at t) (u - 1) (v - 1)) (w * w) (passed (long_enough (x_at t) (y_at t) (u - 1) (v - 1) w) 0 10 (omega arith) a.1).0;
+      long = leb-true (squares (x_at t) (y_at t) (u - 1) (v - 1)) (w * w) (passed (long_enough (x_at t) (y_at t) (u - 1) (v - 1) w) fine ArcShort a.1).0;
     }
 
 -- whether an earlier entry has the same node
 abbrev before : Tables → ℕ → Bool
 before t j = any (λ i. eqb (get_or t.sites i 0) (get_or t.sites j 0)) j
 
-good_site : (L : Limits) (t : Tables) (j : ℕ) → site_fault L t j ≡ 0 → NodeFine t.n (get_or t.sites j 0) × (before t j ≡ false)
+good_site : (L : Limits) (t : Tables) (j : ℕ) → site_fault L t j ≡ fine → NodeFine t.n (get_or t.sites j 0) × (before t j ≡ false)
 unfolding site_fault
 good_site L t j e =
-    let a = else_zero (entry_fault L t.n (Site (get_or t.sites j 0))) _ e in
-    (site_fine L t.n (get_or t.sites j 0) a.0, (failed (before t j) 8 0 (omega arith) a.1).0)
+    let a = then_fine (entry_fault L t.n (Site (get_or t.sites j 0))) _ e in
+    (site_fine L t.n (get_or t.sites j 0) a.0, (failed (before t j) GivenTwice fine a.1).0)
 
-pub sound : (L : Limits) (t : Tables) (q k : ℕ) (r : Rooms) → inspect L t q k r ≡ Fine → Sound L t q k r
+pub sound : (L : Limits) (t : Tables) (q k : ℕ) (r : Rooms) → inspect L t q k r ≡ Ok tt → Sound L t q k r
 unfolding inspect
 sound L t q k r e =
-    let p₁ = need_fine (counts_fit L t) 4 _ e in
-    let p₂ = need_fine (tables_fit t) 9 _ p₁.1 in
-    let p₃ = need_fine (within 1 q t.n) 11 _ p₂.1 in
-    let p₄ = need_fine (within 1 k L.k) 12 _ p₃.1 in
-    let p₅ = need_fine (rooms_fit t.n k r) 13 _ p₄.1 in
+    let p₁ = passed (counts_fit L t) _ (refusal CountOutside 0) e in
+    let p₂ = passed (tables_fit t) _ (refusal TableShort 0) p₁.1 in
+    let p₃ = passed (within 1 q t.n) _ (refusal QueryOutside 0) p₂.1 in
+    let p₄ = passed (within 1 k L.k) _ (refusal KOutside 0) p₃.1 in
+    let p₅ = passed (rooms_fit t.n k r) _ (refusal RoomShort 0) p₄.1 in
     let p₆ = then_fine (first_fault (point_fault L t) t.n) _ p₅.1 in
     let p₇ = then_fine (first_fault (arc_fault L t) t.m) (first_fault (site_fault L t) t.s) p₆.1 in
     let c = both (within 1 t.n L.nodes) (leb t.m L.arcs && leb t.s L.sites) p₁.0 in

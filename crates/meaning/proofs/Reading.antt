@@ -11,18 +11,18 @@ use native.Mathlib.Omega.{arith}
 use native.Mathlib.Nat.{zero-add}
 use borrow.Author.Tests.{leb-true, eqb-true, eqb-false, ne_eqb}
 use Rattle.meaning.specs.Lists.{All}
+use Rattle.std.specs.Prelude.{Option, Some, None, Ok, Err}
+use Rattle.meaning.specs.Limits.{Test, fine}
 use Rattle.meaning.specs.Text.{lines, trim, fields, first, others, none, same, number, signed}
 use Rattle.meaning.specs.Grammar.{word_c, word_p, word_sp, word_co, word_ss, word_a, word_v, word_s, last_number, last_signed, aux_count, graph_counts, point_counts, site_counts, problem_of, arc_data, point_data, site_data, data_of, line_of}
 use Rattle.meaning.specs.Files.{within, is_weight, is_coordinate, most_rows, agrees, counts_fault, entry_fault, node_of, is_given, repeated, Progress, awaiting, begun, Next, step, Reading, refused, read, finish, on_next, read_from, handed_in, reading, in_front}
 use Rattle.meaning.specs.declared.Limits.{Limits}
+use Rattle.meaning.specs.declared.Fault.{Fault}
+use Rattle.meaning.specs.declared.Fault.TheVariants.{CountOutside, NodeOutside, ValueOutside, TableShort}
 use Rattle.meaning.specs.declared.Kind.{Kind}
 use Rattle.meaning.specs.declared.Kind.TheVariants.{Graph, Coordinates, Sites}
 use Rattle.meaning.specs.declared.Rules.{Rules}
 use Rattle.meaning.specs.declared.Counts.{Counts}
-use Rattle.meaning.specs.declared.Number.{Number}
-use Rattle.meaning.specs.declared.Number.TheVariants.{Value, NoNumber}
-use Rattle.meaning.specs.declared.Signed.{Signed}
-use Rattle.meaning.specs.declared.Signed.TheVariants.{At, NoCoordinate}
 use Rattle.meaning.specs.declared.Entry.{Entry}
 use Rattle.meaning.specs.declared.Entry.TheVariants.{Arc, Point, Site}
 use Rattle.meaning.specs.declared.Line.{Line}
@@ -46,7 +46,7 @@ entries_of kind given [] = []
 entries_of kind given (l ∷ ls) = with_data (line_of kind given (fields (trim l))) (entries_of kind given ls)
 
 abbrev pub AllFine : Limits → ℕ → List Entry → Type 0
-AllFine L n es = All (λ e. entry_fault L n e ≡ 0) es
+AllFine L n es = All (λ e. entry_fault L n e ≡ fine) es
 
 -- arcs in a graph text, points in a coordinate text, sites in a site text
 abbrev pub IsOf : Kind → Entry → Type 0
@@ -97,7 +97,7 @@ pub record Accepted (R : Rules) (ls : List (List ℕ)) (c : Counts) (es : List E
   pub of_kind : AllOf R.kind es
   pub distinct : DistinctBy R.kind es
 
-pub never : {number place : ℕ} {c : Counts} {es : List Entry} → refused number place ≡ read c es → ⊥
+pub never : {fault : Fault} {place : ℕ} {c : Counts} {es : List Entry} → refused fault place ≡ read c es → ⊥
 never h = let z : ◌≡◌ {A = ℕ} 0 1 = cc in omega arith
 
 -- ---- an entry without fault
@@ -110,13 +110,13 @@ pub record ArcFine (L : Limits) (n u v w : ℕ) : Type 0 where
   pub weight_low : 1 ≤ w
   pub weight_high : w ≤ L.weight
 
-pub arc_fine : (L : Limits) (n u v w : ℕ) → entry_fault L n (Arc u v w) ≡ 0 → ArcFine L n u v w
+pub arc_fine : (L : Limits) (n u v w : ℕ) → entry_fault L n (Arc u v w) ≡ fine → ArcFine L n u v w
 arc_fine L n u v w h =
-    let p = passed (within 1 u n && within 1 v n) (cond (is_weight L w) 0 6) 5 (omega arith) h in
+    let p = passed (within 1 u n && within 1 v n) (cond (is_weight L w) fine (Err ValueOutside)) NodeOutside h in
     let q = both (within 1 u n) (within 1 v n) p.0 in
     let tail = within_is 1 u n q.0 in
     let head = within_is 1 v n q.1 in
-    let weight = within_is 1 w L.weight (passed (is_weight L w) 0 6 (omega arith) p.1).0 in
+    let weight = within_is 1 w L.weight (passed (is_weight L w) fine ValueOutside p.1).0 in
     record { tail_low = tail.0; tail_high = tail.1; head_low = head.0; head_high = head.1; weight_low = weight.0; weight_high = weight.1 }
 
 pub record PointFine (L : Limits) (n v : ℕ) (x y : ℤ) : Type 0 where
@@ -125,21 +125,21 @@ pub record PointFine (L : Limits) (n v : ℕ) (x y : ℤ) : Type 0 where
   pub x_most : nat_abs x ≤ L.coordinate
   pub y_most : nat_abs y ≤ L.coordinate
 
-pub point_fine : (L : Limits) (n v : ℕ) (x y : ℤ) → entry_fault L n (Point v x y) ≡ 0 → PointFine L n v x y
+pub point_fine : (L : Limits) (n v : ℕ) (x y : ℤ) → entry_fault L n (Point v x y) ≡ fine → PointFine L n v x y
 point_fine L n v x y h =
-    let p = passed (within 1 v n) (cond (is_coordinate L x && is_coordinate L y) 0 6) 5 (omega arith) h in
+    let p = passed (within 1 v n) (cond (is_coordinate L x && is_coordinate L y) fine (Err ValueOutside)) NodeOutside h in
     let node = within_is 1 v n p.0 in
-    let q = both (is_coordinate L x) (is_coordinate L y) (passed (is_coordinate L x && is_coordinate L y) 0 6 (omega arith) p.1).0 in
+    let q = both (is_coordinate L x) (is_coordinate L y) (passed (is_coordinate L x && is_coordinate L y) fine ValueOutside p.1).0 in
     record { low = node.0; high = node.1; x_most = leb-true (nat_abs x) L.coordinate q.0; y_most = leb-true (nat_abs y) L.coordinate q.1 }
 
 pub record NodeFine (n v : ℕ) : Type 0 where
   pub low : 1 ≤ v
   pub high : v ≤ n
 
-pub site_fine : (L : Limits) (n v : ℕ) → entry_fault L n (Site v) ≡ 0 → NodeFine n v
-site_fine L n v h = let node = within_is 1 v n (passed (within 1 v n) 0 5 (omega arith) h).0 in record { low = node.0; high = node.1 }
+pub site_fine : (L : Limits) (n v : ℕ) → entry_fault L n (Site v) ≡ fine → NodeFine n v
+site_fine L n v h = let node = within_is 1 v n (passed (within 1 v n) fine NodeOutside h).0 in record { low = node.0; high = node.1 }
 
-pub node_fine : (L : Limits) (n : ℕ) (e : Entry) → entry_fault L n e ≡ 0 → NodeFine n (node_of e)
+pub node_fine : (L : Limits) (n : ℕ) (e : Entry) → entry_fault L n e ≡ fine → NodeFine n (node_of e)
 node_fine L n (Arc u v w) h = let a = arc_fine L n u v w h in record { low = a.tail_low; high = a.tail_high }
 node_fine L n (Point v x y) h = let a = point_fine L n v x y h in record { low = a.low; high = a.high }
 node_fine L n (Site v) h = site_fine L n v h
@@ -161,34 +161,34 @@ either : (kind : Kind) (given : ℕ) (b : Bool) (x y : Line) → LineBy kind giv
 either kind given true x y p q = p
 either kind given false x y p q = q
 
-graph_counts_lem : (given : ℕ) (n m : Number) → LineBy Graph given (graph_counts n m)
-graph_counts_lem given (Value n) (Value m) = tt
-graph_counts_lem given (Value n) NoNumber = tt
-graph_counts_lem given NoNumber m = tt
+graph_counts_lem : (given : ℕ) (n m : Option ℕ) → LineBy Graph given (graph_counts n m)
+graph_counts_lem given (Some n) (Some m) = tt
+graph_counts_lem given (Some n) None = tt
+graph_counts_lem given None m = tt
 
-point_counts_lem : (given : ℕ) (n : Number) → LineBy Coordinates given (point_counts n)
-point_counts_lem given (Value n) = refl
-point_counts_lem given NoNumber = tt
+point_counts_lem : (given : ℕ) (n : Option ℕ) → LineBy Coordinates given (point_counts n)
+point_counts_lem given (Some n) = refl
+point_counts_lem given None = tt
 
-site_counts_lem : (given : ℕ) (s : Number) → LineBy Sites given (site_counts given s)
-site_counts_lem given (Value s) = refl
-site_counts_lem given NoNumber = tt
+site_counts_lem : (given : ℕ) (s : Option ℕ) → LineBy Sites given (site_counts given s)
+site_counts_lem given (Some s) = refl
+site_counts_lem given None = tt
 
-arc_data_lem : (given : ℕ) (u v w : Number) → LineBy Graph given (arc_data u v w)
-arc_data_lem given (Value u) (Value v) (Value w) = tt
-arc_data_lem given (Value u) (Value v) NoNumber = tt
-arc_data_lem given (Value u) NoNumber w = tt
-arc_data_lem given NoNumber v w = tt
+arc_data_lem : (given : ℕ) (u v w : Option ℕ) → LineBy Graph given (arc_data u v w)
+arc_data_lem given (Some u) (Some v) (Some w) = tt
+arc_data_lem given (Some u) (Some v) None = tt
+arc_data_lem given (Some u) None w = tt
+arc_data_lem given None v w = tt
 
-point_data_lem : (given : ℕ) (v : Number) (x y : Signed) → LineBy Coordinates given (point_data v x y)
-point_data_lem given (Value v) (At x) (At y) = tt
-point_data_lem given (Value v) (At x) NoCoordinate = tt
-point_data_lem given (Value v) NoCoordinate y = tt
-point_data_lem given NoNumber x y = tt
+point_data_lem : (given : ℕ) (v : Option ℕ) (x y : Option ℤ) → LineBy Coordinates given (point_data v x y)
+point_data_lem given (Some v) (Some x) (Some y) = tt
+point_data_lem given (Some v) (Some x) None = tt
+point_data_lem given (Some v) None y = tt
+point_data_lem given None x y = tt
 
-site_data_lem : (given : ℕ) (v : Number) → LineBy Sites given (site_data v)
-site_data_lem given (Value v) = tt
-site_data_lem given NoNumber = tt
+site_data_lem : (given : ℕ) (v : Option ℕ) → LineBy Sites given (site_data v)
+site_data_lem given (Some v) = tt
+site_data_lem given None = tt
 
 problem_by : (kind : Kind) (given : ℕ) (fs : List (List ℕ)) → LineBy kind given (problem_of kind given fs)
 problem_by Graph given fs =
@@ -272,15 +272,15 @@ grown_end R d ds c es true a k h =
 
 module _ (R : Rules) (d : Counts) (ds rest : List Entry) (c : Counts) (es : List Entry) (k : ℕ) (f : Progress → Reading)
     (ih : (js : List Entry) → Held R d js → f (begun d js) ≡ read c es → Grown R d js rest c es) (held : Held R d ds) where
-  grown_data : (e : Entry) → IsOf R.kind e → (t u v : Bool) → leb d.rows (length ds) ≡ t → eqb (entry_fault R.limits d.nodes e) 0 ≡ u → repeated e ds ≡ v
+  grown_data : (e : Entry) → IsOf R.kind e → (t : Bool) (u : Test) (v : Bool) → leb d.rows (length ds) ≡ t → entry_fault R.limits d.nodes e ≡ u → repeated e ds ≡ v
       → on_next (step R (begun d ds) (Data e)) k f ≡ read c es → Grown R d ds (e ∷ rest) c es
   grown_data e o true u v x y z h = absurd (never (sym (ap (λ (n : Next). on_next n k f) ((line_order R).full d ds e (leb-true d.rows (length ds) x))) ∙ h))
-  grown_data e o false false v x y z h = absurd (never (rw (x, y) at h))
-  grown_data e o false true true x y z h = absurd (never (rw (x, y, z) at h))
-  grown_data e o false true false x y z h =
+  grown_data e o false (Err fault) v x y z h = absurd (never (rw (x, y) at h))
+  grown_data e o false (Ok passed) true x y z h = absurd (never (rw (x, y, z) at h))
+  grown_data e o false (Ok passed) false x y z h =
       let g : Grown R d (ds ++ e ∷ []) rest c es
       = ih (ds ++ e ∷ []) record {
-        fine = all_more (λ b. entry_fault R.limits d.nodes b ≡ 0) ds e held.fine (eqb-true (entry_fault R.limits d.nodes e) 0 y);
+        fine = all_more (λ b. entry_fault R.limits d.nodes b ≡ fine) ds e held.fine y;
         of_kind = all_more (IsOf R.kind) ds e held.of_kind o;
         distinct = distinct_by R.kind ds e o held.distinct z;
       } (rw (x, y, z) at h) in
@@ -289,7 +289,7 @@ module _ (R : Rules) (d : Counts) (ds rest : List Entry) (c : Counts) (es : List
   grown_line : (l : Line) → LineBy R.kind R.given l → on_next (step R (begun d ds) l) k f ≡ read c es → Grown R d ds (with_data l rest) c es
   grown_line Nothing o h = ih ds held h
   grown_line (Problem b) o h = absurd (never h)
-  grown_line (Data e) o h = grown_data e o (leb d.rows (length ds)) (eqb (entry_fault R.limits d.nodes e) 0) (repeated e ds) refl refl refl h
+  grown_line (Data e) o h = grown_data e o (leb d.rows (length ds)) (entry_fault R.limits d.nodes e) (repeated e ds) refl refl refl h
   grown_line Malformed o h = absurd (never h)
 
 grown : (R : Rules) (ls : List (List ℕ)) (d : Counts) (ds : List Entry) (k : ℕ) (c : Counts) (es : List Entry) → Held R d ds
@@ -319,17 +319,17 @@ given_by Graph given c o h = tt
 given_by Coordinates given c o h = eqb-true c.nodes given h
 given_by Sites given c o h = o
 
-counted : (R : Rules) (c : Counts) → CountsBy R.kind R.given c → counts_fault R c ≡ 0 → Counted R c
+counted : (R : Rules) (c : Counts) → CountsBy R.kind R.given c → counts_fault R c ≡ fine → Counted R c
 counted R c o h =
     let inside : Bool = within 1 c.nodes R.limits.nodes in
     let few : Bool = leb c.rows (most_rows R.limits R.kind) in
     let own : Bool = agrees R.kind R.given c.nodes in
-    let p = passed (inside && (few && own)) (cond (leb c.rows R.room) 0 9) 4 (omega arith) h in
+    let p = passed (inside && (few && own)) (cond (leb c.rows R.room) fine (Err TableShort)) CountOutside h in
     let q = both inside (few && own) p.0 in
     let s = both few own q.1 in
     let n = within_is 1 c.nodes R.limits.nodes q.0 in
     record {
-      room = leb-true c.rows R.room (passed (leb c.rows R.room) 0 9 (omega arith) p.1).0;
+      room = leb-true c.rows R.room (passed (leb c.rows R.room) fine TableShort p.1).0;
       most = leb-true c.rows (most_rows R.limits R.kind) s.0;
       some = n.0;
       nodes = n.1;
@@ -345,21 +345,21 @@ record Ended (R : Rules) (rest : List Entry) (c : Counts) (es : List Entry) : Ty
 
 module _ (R : Rules) (rest : List Entry) (c : Counts) (es : List Entry) (k : ℕ) (f : Progress → Reading) (ih : f awaiting ≡ read c es → Ended R rest c es)
     (then : (d : Counts) → f (begun d []) ≡ read c es → Grown R d [] rest c es) where
-  begins : (d : Counts) → CountsBy R.kind R.given d → (t : Bool) → eqb (counts_fault R d) 0 ≡ t → on_next (step R awaiting (Problem d)) k f ≡ read c es
+  begins : (d : Counts) → CountsBy R.kind R.given d → (t : Test) → counts_fault R d ≡ t → on_next (step R awaiting (Problem d)) k f ≡ read c es
       → Ended R rest c es
-  begins d o false a h = absurd (never (rw a at h))
-  begins d o true a h =
+  begins d o (Err fault) a h = absurd (never (rw a at h))
+  begins d o (Ok passed) a h =
       let g = then d (rw a at h) in
       record {
         entries = g.entries;
         full = g.full;
-        counts = subst (Counted R) (sym g.counts) (counted R d o (eqb-true (counts_fault R d) 0 a));
+        counts = subst (Counted R) (sym g.counts) (counted R d o a);
         held = g.held;
       }
 
   awaits : (l : Line) → LineBy R.kind R.given l → on_next (step R awaiting l) k f ≡ read c es → Ended R (with_data l rest) c es
   awaits Nothing o h = ih h
-  awaits (Problem d) o h = begins d o (eqb (counts_fault R d) 0) refl h
+  awaits (Problem d) o h = begins d o (counts_fault R d) refl h
   awaits (Data e) o h = absurd (never h)
   awaits Malformed o h = absurd (never h)
 

@@ -6,18 +6,12 @@ use mathlib.Core.Bool.{Bool, true, false, ◌||◌}
 use lib.ListN.{length, get_or, set, length-set}
 use lib.Seq.{get_or-set_same, get_or-set_other}
 use lib.Dec.{eqb, ltb}
-use lib.Bits.{bit_and, bit_or, and_mask, or_shr, or_mod, or_zero_r, shifted_even}
+use lib.Bits.{bit_or, or_shr, or_mod, or_zero_r, shifted_even}
 use lib.Pow.{pow-lt, shl-shr, pow-add}
 use native.Mathlib.Nat.{div-eq_of_lt, one-mul}
 use native.Mathlib.Omega.{arith}
 use borrow.Author.Tests.{eqb-true, eqb-false, ltb-true, ltb-false}
 use Rattle.reading.specs.Marks.{is_marked, Added}
-
-pub low_bits : (k : ℕ) → bit_and k 31 ≡ k % 32
-low_bits k = and_mask k 5
-
-pub low_bit : (x : ℕ) → bit_and x 1 ≡ x % 2
-low_bit x = and_mask x 1
 
 -- the one bit of 2 ^ b
 over : (j d : ℕ) → 2 ^ (suc d + j) / 2 ^ j % 2 ≡ 0

@@ -1,4 +1,3 @@
 pub mod Bits
-pub mod Sizes
 pub mod Steps
 pub mod Lines

@@ -1,43 +1,27 @@
--- The entries of a text as rows of three columns, kept until the last line has been judged: the node, and head and weight, or X and Y.
-use Rattle.std.specs.Prelude.{ℕ, ◌≤◌, List, map, ◌≡◌, ℤ, pos, length, take}
+-- The entries of a text as rows, kept until the last line has been judged.
+use Rattle.std.specs.Prelude.{ℕ, ◌≤◌, List, map, ◌≡◌, pos, length, take}
 use Rattle.meaning.specs.Limits.{base}
-use Rattle.meaning.specs.Files.{Reading, refused, read, most_rows, node_of}
+use Rattle.meaning.specs.Files.{Reading, refused, read, most_rows}
 use Rattle.meaning.specs.declared.Entry.{Entry}
 use Rattle.meaning.specs.declared.Entry.TheVariants.{Arc, Point, Site}
 use Rattle.meaning.specs.declared.Kind.{Kind}
+use Rattle.reading.specs.declared.Row.{Row}
 
-pub record Columns : Type 0 where
-  pub nodes : List ℕ
-  pub seconds : List ℤ
-  pub thirds : List ℤ
+-- enough for any text of that kind
+abbrev pub Wide : Kind → List Row → Type 0
+Wide kind rows = most_rows base kind ≤ length rows
 
-abbrev pub columns : List ℕ → List ℤ → List ℤ → Columns
-columns nodes seconds thirds = record { nodes = nodes; seconds = seconds; thirds = thirds }
+-- an entry's node, and its head and weight, or its X and Y
+abbrev pub row_of : Entry → Row
+row_of (Arc u v w) = record { node = u; second = pos v; third = pos w }
+row_of (Point v x y) = record { node = v; second = x; third = y }
+row_of (Site v) = record { node = v; second = pos 0; third = pos 0 }
 
--- wide enough for any text of that kind
-pub record Wide (kind : Kind) (c : Columns) : Type 0 where
-  pub nodes : most_rows base kind ≤ length c.nodes
-  pub seconds : most_rows base kind ≤ length c.seconds
-  pub thirds : most_rows base kind ≤ length c.thirds
-
--- what a row has beside its node
-abbrev pub second_of : Entry → ℤ
-second_of (Arc u v w) = pos v
-second_of (Point v x y) = x
-second_of (Site v) = pos 0
-
-abbrev pub third_of : Entry → ℤ
-third_of (Arc u v w) = pos w
-third_of (Point v x y) = y
-third_of (Site v) = pos 0
-
--- the entries stand in front of the columns, in order
-pub record Rows (es : List Entry) (c : Columns) : Type 0 where
-  pub nodes : take (length es) c.nodes ≡ map node_of es
-  pub seconds : take (length es) c.seconds ≡ map second_of es
-  pub thirds : take (length es) c.thirds ≡ map third_of es
+-- the entries stand in front of the rows, in order
+abbrev pub Rows : List Entry → List Row → Type 0
+Rows es rows = take (length es) rows ≡ map row_of es
 
 -- the entries of what was read
-abbrev pub RowsRead : Reading → Columns → Type 0
-RowsRead (refused number place) c = Unit {0}
-RowsRead (read counts es) c = Rows es c
+abbrev pub RowsRead : Reading → List Row → Type 0
+RowsRead (refused fault place) rows = Unit {0}
+RowsRead (read counts es) rows = Rows es rows

@@ -1,26 +1,35 @@
-use Rattle.reading.specs.Rows.{Columns, columns}
-use Rattle.reading.proofs.Lines.{SameLengths, judged_start, judged_stop, judged_up, judged_on}
-use native.Mathlib.Omega.{arith}
-use mathlib.Core.Path.{refl, ◌∙◌}
+use Rattle.std.proofs.Common.{◌≡◌, ◌+◌, arith, rules}
+use Rattle.meaning.specs.Limits.{refusal}
+use Rattle.std.proofs.lemmas.Result.{err_from_is_err_and}
+use Rattle.reading.proofs.Lines.{judged_start, passes, fails, judged_stop, judged_up, judged_on, judged_end, judged_rows}
 use Rattle.reading.proofs.judge.Goals as goal
 
-pub loop-st-init : goal.loop-st-init
-loop-st-init c = judged_start _ _ _
+pub loop-reader-init : goal.loop-reader-init
+loop-reader-init c = judged_start c.args.rules c.args.text.now c.args.rows.now c.new-reader.result c.new-reader.ensures
 
-pub returns-then-number-ne0 : goal.returns-then-number-ne0
-returns-then-number-ne0 c =
-    let left : Columns = columns c.next_line-step.new.nodes c.next_line-step.new.seconds c.next_line-step.new.thirds in
-    rw (judged_stop c.args.rules c.args.text.now _ _ _ c.loop-st.st c.loop-st.place c.loop-st.invariant c.loop-st-test.true c.next_line-step.result _ left c.next_line-step.ensures c.if-number-ne0.true) (record { rows_read = tt; value = refl })
+pub loop-reader-smaller : goal.loop-reader-smaller
+loop-reader-smaller c =
+    let fine = passes c.next_line.result c.map_err.result c.map_err.ensures.variant c.in_ok-map_err.was in
+    omega (arith, judged_up c.args.rules c.args.text.now c.args.rows.now c.loop-reader.reader c.loop-reader.rows c.loop-reader.place c.loop-reader.invariant c.loop-reader-test.true c.next_line.result c.next_line.new.self c.next_line.new.rows c.next_line.ensures fine, c.loop-reader-test.true)
 
-pub loop-st-smaller : goal.loop-st-smaller
-loop-st-smaller c =
-    let left : Columns = columns c.next_line-step.new.nodes c.next_line-step.new.seconds c.next_line-step.new.thirds in
-    omega (arith, judged_up c.args.rules c.args.text.now _ _ _ c.loop-st.st c.loop-st.place c.loop-st.invariant c.loop-st-test.true c.next_line-step.result _ left c.next_line-step.ensures c.if-number-ne0.false, c.loop-st-test.true)
+pub loop-reader-preserved : goal.loop-reader-preserved
+loop-reader-preserved c =
+    let fine = passes c.next_line.result c.map_err.result c.map_err.ensures.variant c.in_ok-map_err.was in
+    judged_on c.args.rules c.args.text.now c.args.rows.now c.loop-reader.reader c.loop-reader.rows c.loop-reader.place c.loop-reader.invariant c.loop-reader-test.true c.next_line.result c.next_line.new.self c.next_line.new.rows c.next_line.ensures fine c.next_line.auto.rows
 
-pub loop-st-preserved : goal.loop-st-preserved
-loop-st-preserved c =
-    let lent : Columns = columns c.args.nodes.now c.args.seconds.now c.args.thirds.now in
-    let left : Columns = columns c.next_line-step.new.nodes c.next_line-step.new.seconds c.next_line-step.new.thirds in
-    let lengths : SameLengths lent left = let lengths = c.loop-st.invariant.lengths in
-    record { nodes = c.next_line-step.auto.nodes ∙ lengths.nodes; seconds = c.next_line-step.auto.seconds ∙ lengths.seconds; thirds = c.next_line-step.auto.thirds ∙ lengths.thirds } in
-    judged_on c.args.rules c.args.text.now _ _ _ c.loop-st.st c.loop-st.place c.loop-st.invariant c.loop-st-test.true c.next_line-step.result _ left c.next_line-step.ensures c.if-number-ne0.false (c.next_line-step.auto.seen ∙ c.loop-st.invariant.size) lengths
+pub returns-in_err-map_err-clause-rows_read : goal.returns-in_err-map_err-clause-rows_read
+returns-in_err-map_err-clause-rows_read c =
+    let f = fails c.next_line.result c.map_err.result _ c.map_err.ensures.cases c.in_err-map_err.field-0.0 c.in_err-map_err.was in
+    rw (judged_stop c.args.rules c.args.text.now c.args.rows.now c.loop-reader.reader c.loop-reader.rows c.loop-reader.place c.loop-reader.invariant c.loop-reader-test.true c.next_line.result c.next_line.new.self c.next_line.new.rows c.next_line.ensures f.0 f.1) tt
+
+pub returns-in_err-map_err-clause-value : goal.returns-in_err-map_err-clause-value
+returns-in_err-map_err-clause-value c =
+    let f = fails c.next_line.result c.map_err.result _ c.map_err.ensures.cases c.in_err-map_err.field-0.0 c.in_err-map_err.was in
+    let p = err_from_is_err_and c.from_residual.result c.from_residual.ensures.1 in
+    let placed : c.in_err-map_err.field-0.0 ≡ refusal f.0 (c.loop-reader.place + 1) = search rules in
+    rw (p.1, p.2, placed, judged_stop c.args.rules c.args.text.now c.args.rows.now c.loop-reader.reader c.loop-reader.rows c.loop-reader.place c.loop-reader.invariant c.loop-reader-test.true c.next_line.result c.next_line.new.self c.next_line.new.rows c.next_line.ensures f.0 f.1)
+
+pub returns-clause-rows_read : goal.returns-clause-rows_read
+returns-clause-rows_read c =
+    rw (judged_end c.args.rules c.args.text.now c.args.rows.now c.loop-reader.reader c.loop-reader.rows c.loop-reader.place c.loop-reader.invariant (omega arith))
+    (judged_rows c.args.rules c.args.text.now c.args.rows.now c.loop-reader.reader c.loop-reader.rows c.loop-reader.place c.loop-reader.invariant)

@@ -1,9 +1,13 @@
-use native.Mathlib.Omega.{arith}
-use Rattle.text.proofs.Laws.{piece_inside}
+use Rattle.std.proofs.Common.{arith}
+use Rattle.text.proofs.Laws.{line_inside, tail_all}
 use Rattle.text.proofs.piece_at.Goals as goal
 
 pub overflow_add-result : goal.overflow_add-result
-overflow_add-result c = omega (arith, piece_inside c.args.s.now c.args.at _ c.if-at-s.true c.line_len-len.ensures)
+overflow_add-result c =
+    let len = rw tail_all at c.line_len-len.ensures in
+    omega (arith, len, line_inside c.args.text.now c.args.at)
 
-pub overflow_add-result-then-at-s : goal.overflow_add-result-then-at-s
-overflow_add-result-then-at-s c = omega (arith, piece_inside c.args.s.now c.args.at _ c.if-at-s.true c.line_len-len.ensures)
+pub overflow_add-result-2 : goal.overflow_add-result-2
+overflow_add-result-2 c =
+    let len = rw tail_all at c.line_len-len.ensures in
+    omega (arith, len, line_inside c.args.text.now c.args.at)

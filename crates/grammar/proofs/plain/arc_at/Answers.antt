@@ -2,8 +2,4 @@ use Rattle.grammar.proofs.Lines.{arc_said}
 use Rattle.grammar.proofs.plain.arc_at.Goals as goal
 
 pub returns : goal.returns
-returns c = λ h. arc_said
-    (c.starts.ensures c.if-not-starts.false).1
-    (c.digits-u.ensures.said c.if-u-eq0.false)
-    (c.digits-v.ensures.said c.if-v-eq0.false)
-    (c.digits-w.ensures.said h)
+returns c = arc_said c.in_ok-from.ensures c.in_ok-tail.ensures.said c.in_ok-head.ensures.said c.in_ok-weight.ensures.said

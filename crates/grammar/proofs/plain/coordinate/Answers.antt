@@ -1,14 +1,12 @@
-use Rattle.std.proofs.Common.{ℕ, ◌<◌, pos, neg_ℤ, w32}
-use mir.ValLaws.{to_z-of_z}
-use Rattle.text.proofs.Laws.{minus_eq, minus_fits}
+use Rattle.std.proofs.Common.{rules, arith, ◌≡◌, pos, neg_ℤ, ◌-ℤ◌, to_z, of_z, w32}
+use Rattle.std.proofs.lemmas.Grind.{common_steps}
 use Rattle.grammar.proofs.Lines.{coordinate_minus}
 use Rattle.grammar.proofs.plain.coordinate.Goals as goal
 
-pub returns-then-is_minus : goal.returns-then-is_minus
-returns-then-is_minus c =
-    let v : ℕ = c.digits-size.result.value in
-    let small : v < 1000000000 = c.digits-size.ensures.small in
-    record {
-      inside = c.digits-size.ensures.inside;
-      said = λ h. rw (minus_eq v small, to_z-of_z w32 (neg_ℤ (pos v)) (minus_fits v small)) (coordinate_minus (c.is_minus.ensures c.if-is_minus.true) (c.digits-size.ensures.said h));
-    }
+pub returns-in-45 : goal.returns-in-45
+returns-in-45 c =
+    let e : to_z w32 (of_z w32 (pos 0 -ℤ to_z w32 c.in_ok-size.size.value)) ≡ neg_ℤ (pos c.in_ok-size.size.value) = search rules in
+    rw e (record {
+      inside = c.in_ok-size.ensures.inside;
+      said = coordinate_minus (omega arith, grind (arith, common_steps)) c.in_ok-size.ensures.said;
+    })

@@ -1,10 +1,6 @@
-use Rattle.std.proofs.Common.{◌-◌}
 use Rattle.grammar.proofs.Lines.{Sofar}
 use Rattle.grammar.proofs.plain.digits.Given as goal
 
 -- the bytes from at to i are digits, and value is theirs
 abbrev pub invariant-loop-i : goal.invariant-loop-i
 invariant-loop-i l = Sofar l.text l.at l.i l.value
-
-abbrev pub decreases-loop-i : goal.decreases-loop-i
-decreases-loop-i l = l.most - l.i

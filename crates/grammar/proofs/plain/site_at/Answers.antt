@@ -2,4 +2,4 @@ use Rattle.grammar.proofs.Lines.{site_said}
 use Rattle.grammar.proofs.plain.site_at.Goals as goal
 
 pub returns : goal.returns
-returns c = λ h. site_said (c.starts.ensures c.if-not-starts.false).1 (c.digits-id.ensures.said h)
+returns c = site_said c.in_ok-from.ensures c.in_ok-node.ensures.said
