@@ -1,2 +1,2 @@
--- What the proofs of several functions use: the stretch as a span.
-mod Spans
+-- The stretch as an offset and a size.
+pub mod Spans

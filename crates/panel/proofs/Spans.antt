@@ -1,28 +1,39 @@
 -- The stretch that the library shows, as an offset and a size: it stops at its own end.
-use Prim.Native.Nat.{ℕ, ◌-◌, ◌≤◌}
-use mathlib.Core.Path.{◌≡◌, sym, ap, ◌∙◌}
+use Prim.Native.Nat.{ℕ, ◌-◌, ◌≤◌, ◌<◌}
+use mathlib.Core.Path.{◌≡◌, refl}
+use mathlib.Core.Bool.{Bool, true, false}
 use mathlib.Core.List.{List}
 use native.Mathlib.Omega.{arith}
+use borrow.Author.Tests.{lt-leb}
+use lib.Dec.{leb}
 use lib.ListN.{length, get_or}
 use Rattle.meaning.specs.Search.{stretch}
 use Rattle.meaning.specs.Boundary.{packed, stretch_code}
-use Rattle.meaning.proofs.Boundary.{Stops, span_stops}
+use Rattle.meaning.proofs.Boundary.{span_stops}
 
--- what a stretch with entries tells of its rank and its end
-pub record Shown (ends : List ℕ) (rank size : ℕ) : Type 0 where
-  pub low : 1 ≤ rank
-  pub high : rank ≤ length ends
-  pub most : size ≤ get_or ends (rank - 1) 0
+module _ (routes ends : List ℕ) (rank : ℕ) where
+  -- a rank that has no end shows nothing
+  pub empty_below : rank < 1 → length (stretch routes ends rank) ≡ 0
+  unfolding stretch
+  empty_below h = rw (lt-leb 1 rank h)
 
-module _ (routes ends : List ℕ) (rank : ℕ) (part : List ℕ) (is : part ≡ stretch routes ends rank) where
-  pub empty_code : length part ≡ 0 → 0 ≡ stretch_code routes ends rank
-  empty_code e = let z : length (stretch routes ends rank) ≡ 0 = sym (ap length is) ∙ e in rw z
+  pub empty_above : length ends < rank → length (stretch routes ends rank) ≡ 0
+  unfolding stretch
+  empty_above h = by (leb 1 rank) refl
+    where
+      by : (b : Bool) → leb 1 rank ≡ b → length (stretch routes ends rank) ≡ 0
+      by true e = rw (e, lt-leb rank (length ends) h)
+      by false e = rw e
 
-  stops : (length part ≡ 0 → ⊥) → Stops routes ends rank
-  stops some = span_stops routes ends rank (λ e. some (ap length is ∙ e))
+  -- what is shown stands in front of its end
+  pub inside : (length (stretch routes ends rank) ≡ 0 → ⊥)
+      → length (stretch routes ends rank) ≤ get_or ends (rank - 1) 0
+  inside some = omega (arith, (span_stops routes ends rank some).stop)
 
-  pub shown : (length part ≡ 0 → ⊥) → Shown ends rank (length part)
-  shown some = let s = stops some in record { low = s.low; high = s.high; most = omega (arith, s.stop, ap length is) }
+  -- and its number is told by that end
+  pub coded : (length (stretch routes ends rank) ≡ 0 → ⊥)
+      → packed 0 (get_or ends (rank - 1) 0 - length (stretch routes ends rank))
+      (length (stretch routes ends rank)) ≡ stretch_code routes ends rank
+  coded some = omega (arith, (span_stops routes ends rank some).stop)
 
-  pub span_code : (length part ≡ 0 → ⊥) → packed 0 (get_or ends (rank - 1) 0 - length part) (length part) ≡ stretch_code routes ends rank
-  span_code some = omega (arith, (stops some).stop, ap length is)
+pub ruleset spans = (empty_below, empty_above, inside, coded)

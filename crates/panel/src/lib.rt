@@ -7,7 +7,10 @@
 ghost use Rattle.std.specs.Prelude.{◌≡◌, ◌<◌};
 ghost use Rattle.meaning.specs.Limits.{base, fault_number};
 ghost use Rattle.meaning.specs.Region.{tables, rooms};
-ghost use Rattle.meaning.specs.Boundary.{field, packed as packed_of, read_code, answer_code, RefusalFits, ReadFits, AnswerFits, GraphCalled, CoordinatesCalled, SitesCalled, SearchCalled, PanelCalled, stretch_code};
+ghost use Rattle.meaning.specs.Boundary.{field, packed as packed_of, read_code, answer_code};
+ghost use Rattle.meaning.specs.Boundary.{RefusalFits, ReadFits, AnswerFits, stretch_code};
+ghost use Rattle.meaning.specs.Boundary.{GraphCalled, CoordinatesCalled, SitesCalled};
+ghost use Rattle.meaning.specs.Boundary.{SearchCalled, PanelCalled};
 
 use meaning::{Counts, Refusal, Tables, Tally};
 
@@ -50,19 +53,22 @@ fn answer_code(answer: Result<Tally, Refusal>) -> u64
 
 // Reads a graph text.
 #[unsafe(no_mangle)]
+#[tactic(auto, using(meaning::proofs::Boundary::graph_fits))]
 pub extern "C" fn wick_read_graph(
     text: &[u8],
     tails: &mut [u16],
     heads: &mut [u16],
     weights: &mut [u32],
 ) -> u64
-    ensures { GraphCalled base text.now tails.old heads.old weights.old tails.new heads.new weights.new result }
+    ensures { GraphCalled base text.now tails.old heads.old weights.old
+        tails.new heads.new weights.new result }
 {
     read_code(readers::read_graph(text, tails, heads, weights))
 }
 
 // Reads a coordinate text, of a graph with that many nodes.
 #[unsafe(no_mangle)]
+#[tactic(auto, using(meaning::proofs::Boundary::coordinates_fits))]
 pub extern "C" fn wick_read_coordinates(
     text: &[u8],
     nodes: usize,
@@ -76,6 +82,7 @@ pub extern "C" fn wick_read_coordinates(
 
 // Reads a site text, of a graph with that many nodes.
 #[unsafe(no_mangle)]
+#[tactic(auto, using(meaning::proofs::Boundary::sites_fits))]
 pub extern "C" fn wick_read_sites(text: &[u8], nodes: usize, sites: &mut [u16]) -> u64
     ensures { SitesCalled base text.now nodes sites.old sites.new result }
 {
@@ -84,6 +91,7 @@ pub extern "C" fn wick_read_sites(text: &[u8], nodes: usize, sites: &mut [u16]) 
 
 // The k network-nearest sites from the query node, with lengths and routes.
 #[unsafe(no_mangle)]
+#[tactic(auto, using(meaning::proofs::Boundary::search_fits))]
 pub extern "C" fn wick_search(
     tails: &[u16],
     heads: &[u16],
@@ -102,7 +110,8 @@ pub extern "C" fn wick_search(
     ends: &mut [u16],
     routes: &mut [u16],
 ) -> u64
-    ensures { SearchCalled base (tables tails.now heads.now weights.now xs.now ys.now sites.now n m s) query k
+    ensures { SearchCalled base
+        (tables tails.now heads.now weights.now xs.now ys.now sites.now n m s) query k
         (rooms work.old listed.old lengths.old ends.old routes.old)
         (rooms work.new listed.new lengths.new ends.new routes.new) result }
 {
@@ -117,13 +126,12 @@ pub extern "C" fn wick_search(
         m,
         s,
     };
-    answer_code(search::search(
-        &lent, query, k, work, listed, lengths, ends, routes,
-    ))
+    answer_code(search::search(&lent, query, k, work, listed, lengths, ends, routes))
 }
 
 // The panel call: the search with the panel's own k.
 #[unsafe(no_mangle)]
+#[tactic(auto, using(meaning::proofs::Boundary::search_fits))]
 pub extern "C" fn wick_panel(
     tails: &[u16],
     heads: &[u16],
@@ -141,7 +149,8 @@ pub extern "C" fn wick_panel(
     ends: &mut [u16],
     routes: &mut [u16],
 ) -> u64
-    ensures { PanelCalled base (tables tails.now heads.now weights.now xs.now ys.now sites.now n m s) query
+    ensures { PanelCalled base
+        (tables tails.now heads.now weights.now xs.now ys.now sites.now n m s) query
         (rooms work.old listed.old lengths.old ends.old routes.old)
         (rooms work.new listed.new lengths.new ends.new routes.new) result }
 {
@@ -156,14 +165,13 @@ pub extern "C" fn wick_panel(
         m,
         s,
     };
-    answer_code(search::panel(
-        &lent, query, work, listed, lengths, ends, routes,
-    ))
+    answer_code(search::panel(&lent, query, work, listed, lengths, ends, routes))
 }
 
 // Where the route of a rank stands in the lent buffer, and how many entries it has: a stretch can't
 // be returned to C. It stops at its own end.
 #[unsafe(no_mangle)]
+#[tactic(auto, using(crate::proofs::Spans::spans))]
 pub extern "C" fn wick_route(routes: &[u16], ends: &[u16], rank: usize) -> u64
     ensures { result ≡ stretch_code routes.now ends.now rank }
 {

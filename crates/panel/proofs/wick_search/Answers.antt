@@ -1,5 +1,0 @@
-use Rattle.meaning.proofs.Boundary.{search_fits}
-use Rattle.panel.proofs.wick_search.Goals as goal
-
-pub answer_code-requires : goal.answer_code-requires
-answer_code-requires c = search_fits _ _ _ _ _ _ c.search.ensures
