@@ -1,0 +1,129 @@
+#!/usr/bin/env python3
+"""sides.py COMMIT: what changed since that commit of what the crates promise, old and new one under the other, in Markdown: the
+signatures and clauses of public functions, the types, the definitions of specs/ and the theorems of proofs/. docs/DESIGN-PASS.md
+ends with what it prints."""
+import re
+import subprocess
+import sys
+
+# what a function or a definition is called now, where another name, or another place in a type, stands for it
+MOVED = {}
+
+
+def git(*words):
+    return subprocess.run(["git", *words], check=True, capture_output=True, text=True).stdout
+
+
+def files(commit, pattern):
+    listed = git("ls-tree", "-r", "--name-only", commit, "crates") if commit else git("ls-files", "crates")
+    for path in listed.splitlines():
+        if re.match(pattern, path):
+            yield path, git("show", f"{commit}:{path}") if commit else open(path).read()
+
+
+def flat(text):
+    """without comments, each run of blanks one, no comma before a closing bracket"""
+    text = " ".join(re.sub(r"(//|-- )[^\n]*", "", text).split())
+    return re.sub(r",? ([)\]}])", r"\1", re.sub(r"([(\[]) ", r"\1", text))
+
+
+def code(commit):
+    """name -> (kind, text) of the public functions, types and constants of src/"""
+    found = {}
+    for path, text in files(commit, r"crates/\w+/src/.*\.rt$"):
+        crate, of = path.split("/")[1], ""
+        lines = text.split("\n")
+        i = 0
+        while i < len(lines):
+            line = lines[i]
+            impl = re.match(r"impl(?:<[^>]*>)? (?:.* for )?(\w+)", line)
+            if impl:
+                of = impl.group(1) + "::"
+                if " for " in line and "Model" not in line:
+                    block = [line]
+                    while lines[i] != "}":
+                        i += 1
+                        if "ghost" in lines[i]:
+                            block.append(lines[i])
+                    found[f"{crate} {line.split('{')[0].strip()}"] = ("impl", "\n".join(block))
+                elif "Model" in line:
+                    block = [line]
+                    while lines[i] != "}":
+                        i += 1
+                        if lines[i].strip():
+                            block.append(lines[i])
+                    found[f"{crate} {line.split('{')[0].strip()}"] = ("impl", "\n".join(block))
+            elif line == "}":
+                of = ""
+            public = re.match(r"\s*pub(?:\(crate\))? (?:extern \"C\" )?(fn|struct|enum|const|type) (\w+)", line)
+            if public:
+                kind, name = public.groups()
+                block = [line]
+                if kind == "fn":
+                    while not lines[i].rstrip().endswith("{") or re.search(r"(requires|ensures)\b[^{]*\{$", lines[i]):
+                        i += 1
+                        block.append(lines[i])
+                    block[-1] = block[-1].rstrip().removesuffix("{")
+                elif kind in ("struct", "enum") and line.endswith("{"):
+                    while lines[i] != "}":
+                        i += 1
+                        block.append(lines[i])
+                found[f"{crate} {of}{name}"] = (kind, "\n".join(b for b in block if b.strip()))
+            i += 1
+    return found
+
+
+def statements(commit, folder):
+    """name -> (kind, text) of the public definitions of specs/, or of the public lemmas of meaning's proofs/"""
+    found = {}
+    for path, text in files(commit, rf"crates/\w+/{folder}/\w+\.antt$"):
+        crate = path.split("/")[1]
+        block, name = [], None
+        for line in text.split("\n") + [""]:
+            start = re.match(r"\s*(?:(?:abbrev|unfoldable) )?pub (?:(record|data|abbrev) )?(\S+)", line)
+            if start and not line.startswith("    ") and not re.match(r"\s*pub \S+ : ", line) or start and folder == "proofs" and not line.startswith("    "):
+                if start.group(2) in ("mod", "use"):
+                    continue
+                name, block = f"{crate} {start.group(2)}", [line]
+            elif name and line.strip() and not line.strip().startswith("--"):
+                block.append(line)
+            elif not line.strip() and name:
+                found[name] = (folder, "\n".join(block))
+                name, block = None, []
+    return found
+
+
+def stated(text):
+    """the statement of a lemma, without its proof"""
+    out = []
+    for i, line in enumerate(text.split("\n")):
+        if i and not line.startswith(" ") or i and re.match(r"\s*(unfolding|where)\b", line):
+            break
+        if i and not re.match(r"\s+(→|[({])", line) and "record" not in text.split("\n")[0]:
+            break
+        out.append(line)
+    return "\n".join(out)
+
+
+def show(title, old, new, kind):
+    gone = sorted(k for k in old if k not in new and MOVED.get(k) not in new)
+    pairs = [(k, MOVED.get(k, k)) for k in old if MOVED.get(k, k) in new and flat(old[k][1]) != flat(new[MOVED.get(k, k)][1])]
+    fresh = sorted(k for k in new if k not in old and k not in MOVED.values())
+    print(f"\n### {title}\n")
+    for k, now in pairs:
+        name = f"`{k}`" if k == now else f"`{k}`, now `{now}`"
+        print(f"{name}\n\n```{kind}\n{old[k][1]}\n// now\n{new[now][1]}\n```\n".replace("// now", "-- now" if kind == "antt" else "// now"))
+    if gone:
+        print("Gone: " + ", ".join(f"`{k}`" for k in gone) + ".\n")
+    if fresh:
+        print("New: " + ", ".join(f"`{k}`" for k in fresh) + ".")
+
+
+def main(commit):
+    show("Public signatures, clauses, types and invariants", code(commit), code(None), "rust")
+    show("Definitions", statements(commit, "specs"), statements(None, "specs"), "antt")
+    both = [{k: (x, stated(t)) for k, (x, t) in statements(c, "proofs").items() if k.startswith("meaning ")} for c in (commit, None)]
+    show("Theorems and lemmas of `meaning`", *both, "antt")
+
+
+main(*sys.argv[1:])
