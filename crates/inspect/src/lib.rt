@@ -116,22 +116,29 @@ impl Entries<'_> {
         Ok(())
     }
 
-    // One site: its node, and that no earlier entry gives it.
-    #[tactic(auto, unfolding(meaning::specs::Checks::site_fault, meaning::specs::Limits::and_then))]
-    fn site_fault(&self, j: usize) -> Result<(), Fault>
-        requires { j < self.now.tables.s }
-        ensures { result ≡ site_fault base (tables_of self.now.tables) j }
+    // The first faulty entry ends the check and is the place: each site, against all earlier ones.
+    // The paper asks for this form: labelled loops, left by break with the refusal's place.
+    fn stands(&self) -> Result<(), Refusal>
+        ensures { result ≡ first_fault (site_fault base (tables_of self.now.tables)) self.now.tables.s }
     {
         let t = self.tables;
-        let number = t.sites[j];
-        if !reading::within(1, number as usize, t.n) {
-            return Err(Fault::NodeOutside);
+        let mut j = 0;
+        'entries: loop {
+            if t.s <= j {
+                break 'entries Ok(());
+            }
+            let number = t.sites[j];
+            if !reading::within(1, number as usize, t.n) {
+                break 'entries Err(Fault::NodeOutside.at(j + 1));
+            }
+            for i in 0..j {
+                let again = t.sites[i] == number;
+                if again {
+                    break 'entries Err(Fault::GivenTwice.at(j + 1));
+                }
+            }
+            j += 1;
         }
-        let earlier = &t.sites[..j];
-        if earlier.contains(&number) {
-            return Err(Fault::GivenTwice);
-        }
-        Ok(())
     }
 
     // Whether the next site is another node than the earlier ones, which are marked; it is marked
@@ -174,7 +181,7 @@ impl Entries<'_> {
         if self.distinct() {
             return Ok(());
         }
-        first_fault(t.s, |j| self.site_fault(j))
+        self.stands()
     }
 }
 
