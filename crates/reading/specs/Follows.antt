@@ -26,11 +26,11 @@ only_once (Arc u v w) given = false
 only_once (Point v x y) given = given
 only_once (Site v) given = given
 
--- 7 where the entries are as many as the count
+-- refused where the entries are as many as the count
 abbrev pub too_many : ℕ → ℕ → Test
 too_many rows count = cond (leb rows count) (Err DataMiscounted) fine
 
--- 7, then 5 and 6
+-- one too many, then the entry's own
 abbrev pub data_fault : Limits → Counts → ℕ → Entry → Test
 data_fault L c count e = and_then (too_many c.rows count) (entry_fault L c.nodes e)
 

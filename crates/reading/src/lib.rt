@@ -87,7 +87,7 @@ fn agrees(kind: Kind, given: usize, n: usize) -> bool
     }
 }
 
-// Of a problem line: 4, then 9.
+// Of a problem line: its counts, then the room for its data.
 fn counts_fault(rules: Rules, c: Counts) -> Result<(), Fault>
     ensures { result ≡ counts_fault rules c }
 {
@@ -119,7 +119,7 @@ fn point_fault(limits: Limits, n: usize, node: usize, x: i32, y: i32) -> Result<
     test(inside, Fault::ValueOutside)
 }
 
-// Of a data line: 5, then 6.
+// Of a data line: its nodes, then its values.
 fn entry_fault(limits: Limits, n: usize, e: Entry) -> Result<(), Fault>
     ensures { result ≡ entry_fault limits n e }
 {
@@ -136,7 +136,7 @@ fn too_many(rows: usize, count: usize) -> Result<(), Fault>
     test(count < rows, Fault::DataMiscounted)
 }
 
-// Of a data line behind the problem line: 7, then 5 and 6.
+// Of a data line behind the problem line: one too many, then what is wrong with the entry.
 fn data_fault(limits: Limits, c: Counts, count: usize, e: Entry) -> Result<(), Fault>
     ensures { result ≡ data_fault limits c count e }
 {
@@ -284,7 +284,7 @@ impl Reader {
         self.advance(rows, said.line)
     }
 
-    // At the end of the text: 3, then 7.
+    // At the end of the text: no problem line, then too few data lines.
     fn finish(&self) -> Result<Counts, Refusal>
         ensures { Finishes self.now result }
     {
@@ -315,7 +315,7 @@ fn judge(rules: Rules, text: &[u8], rows: &mut [Row]) -> Result<Counts, Refusal>
     reader.finish()
 }
 
-// The answer of a reader: 1, then a handed-in N 4, then the lines.
+// The answer of a reader: the text's size, then a handed-in N, then the lines.
 pub fn judged(
     kind: Kind,
     given: usize,
