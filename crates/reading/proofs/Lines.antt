@@ -13,7 +13,7 @@ use Rattle.std.specs.Prelude.{Some, None, Result, Ok, Err, MatchResult}
 use Rattle.std.specs.Result.{is_ok, IsErrAnd}
 use Rattle.meaning.specs.Text.{lines, trim, fields}
 use Rattle.meaning.specs.Grammar.{line_of}
-use Rattle.meaning.specs.Limits.{base, Test, fine}
+use Rattle.meaning.specs.Limits.{Test, fine}
 use Rattle.meaning.specs.Files.{Progress, awaiting, begun, Next, stop, go, step, on_next, Reading, refused, read, read_from, finish}
 use Rattle.meaning.specs.declared.Fault.{Fault}
 use Rattle.meaning.specs.declared.Refusal.{Refusal}
@@ -30,8 +30,8 @@ use Rattle.text.specs.declared.Piece.{Piece}
 use Rattle.text.proofs.Laws.{line_inside, lines_at}
 use Rattle.grammar.specs.Plain.{first_says}
 use Rattle.reading.specs.Said.{said_at}
-use Rattle.reading.specs.Rows.{Wide, Rows, RowsRead}
-use Rattle.reading.specs.Follows.{moved_to, Ready, entries_since, Keeps, Went, Starts, Follows, AnswersNext}
+use Rattle.reading.specs.Rows.{Rows, RowsRead}
+use Rattle.reading.specs.Follows.{moved_to, entries_since, Keeps, Went, Starts, Follows, AnswersNext}
 use Rattle.reading.specs.declared.Said.{Said}
 use Rattle.reading.specs.declared.Reader.{Reader}
 use Rattle.reading.specs.declared.Row.{Row}
