@@ -22,7 +22,7 @@ mod marks;
 
 // An entry as it is kept until the last line has been judged: its node, and head and weight, or X
 // and Y.
-#[derive(Clone, Copy)]
+#[derive(Clone, Copy, Default)]
 pub struct Row {
     pub node: u16,
     pub second: i32,
