@@ -5,7 +5,7 @@
 
 use meaning::{Refusal, Tables, Tally};
 use std::fmt::Display;
-use std::io;
+use std::io::{self, Read};
 
 // Room for a case and the end of its line.
 const ROOM: usize = 150000;
@@ -54,9 +54,9 @@ struct Fields<'a> {
 
 impl Fields<'_> {
     fn next<T: Entry>(&mut self) -> T {
-        let entry = T::of(text::word(self.rest));
-        self.rest = text::after(self.rest);
-        entry
+        let (field, rest) = text::split_word(self.rest);
+        self.rest = rest;
+        T::of(field)
     }
 
     // Fills the first entries of a table, `most` of them, and answers these.
@@ -231,11 +231,7 @@ fn route_case(rt: &impl Print, fields: &mut Fields) -> io::Result<()> {
 
 // One case, by way of the buffer; false where the input has ended.
 // A read that fails ends the input.
-fn next_case(
-    rt: &impl Print,
-    input: &mut impl io::Read,
-    buffer: &mut [u8; ROOM],
-) -> io::Result<bool> {
+fn next_case(rt: &impl Print, input: &mut impl Read, buffer: &mut [u8; ROOM]) -> io::Result<bool> {
     let mut first = [0u8; 9];
     if input.read_exact(&mut first).is_err() {
         return Ok(false);

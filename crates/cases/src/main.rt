@@ -4,7 +4,7 @@
 #![tactic(auto)]
 
 use meaning::{ARCS_MOST, Counts, NODES_MOST, Refusal, SITES_MOST};
-use std::io;
+use std::io::{self, Read};
 
 // Room for a case's text and the end of its line.
 const ROOM: usize = 65600;
@@ -74,7 +74,7 @@ fn sites(rt: &impl Print, text: &[u8], nodes: usize, room: usize) -> io::Result<
 
 // One case, by way of the buffer; false where the input has ended.
 // A read that fails ends the input.
-fn next_case(rt: &impl Print, input: &mut impl io::Read, buffer: &mut [u8; ROOM]) -> io::Result<bool> {
+fn next_case(rt: &impl Print, input: &mut impl Read, buffer: &mut [u8; ROOM]) -> io::Result<bool> {
     let mut first = [0u8; 20];
     if input.read_exact(&mut first).is_err() {
         return Ok(false);

@@ -16,7 +16,8 @@ pub const TEXT_ROOM: usize = 65537;
 // at the start of the buffer.
 pub fn read_full<I: io::Read>(input: &mut I, text: &mut [u8]) -> usize
     ensures within { result ≤ length text.new }
-    ensures bytes { Consumes (I.remaining input.old) (I.remaining input.new) (take result text.new) }
+    ensures bytes { Consumes (I.remaining input.old) (I.remaining input.new)
+        (take result text.new) }
 {
     let mut done = 0;
     while done < text.len() {

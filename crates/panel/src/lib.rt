@@ -171,7 +171,7 @@ pub extern "C" fn wick_panel(
 // Where the route of a rank stands in the lent buffer, and how many entries it has: a stretch can't
 // be returned to C. It stops at its own end.
 #[unsafe(no_mangle)]
-#[tactic(auto, using(crate::proofs::Spans::spans))]
+#[tactic(auto, using(meaning::proofs::Boundary::span_stops), unfolding(meaning::specs::Search::stretch))]
 pub extern "C" fn wick_route(routes: &[u16], ends: &[u16], rank: usize) -> u64
     ensures { result ≡ stretch_code routes.now ends.now rank }
 {

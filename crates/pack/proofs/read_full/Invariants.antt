@@ -7,7 +7,8 @@ abbrev pub invariant-loop-done : goal.invariant-loop-done
 invariant-loop-done g l = record {
   within : l.done ≤ length l.text;
   same_length : length l.text ≡ length l.initial.text;
-  bytes : Consumes (g.I.Read.remaining l.initial.input) (g.I.Read.remaining l.input) (take l.done l.text);
+  bytes : Consumes (g.I.Read.remaining l.initial.input) (g.I.Read.remaining l.input)
+      (take l.done l.text);
 }
 
 abbrev pub decreases-loop-done : goal.decreases-loop-done

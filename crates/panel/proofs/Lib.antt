@@ -1,2 +1,0 @@
--- The stretch as an offset and a size.
-pub mod Spans
