@@ -82,13 +82,13 @@ pub record Linking (t : Tables) (starts nexts : List ℕ) (left : ℕ) : Type 0 
   pub first : (v : ℕ) → v < t.n → get_or starts v 0 ≡ seek t.tails (suc v) left (t.m - left)
   pub next : (i : ℕ) → left ≤ i → i < t.m → get_or nexts i 0 ≡ seek_next t i
 
-pub link_none : (t : Tables) (a b : ℕ) → t.n ≤ a → t.m ≤ b → Linking t (replicate a 0) (replicate b 0) t.m
+pub link_none : (t : Tables) (room : ℕ) (nexts : List ℕ) → t.n ≤ room → t.m ≤ length nexts → Linking t (replicate room 0) nexts t.m
 unfolding seek
-link_none t a b la lb = record {
-  start_room = omega (arith, length-replicate {A = ℕ} a 0);
-  next_room = omega (arith, length-replicate {A = ℕ} b 0);
-  first = λ v l. let z : t.m - t.m ≡ 0 = omega arith in rw z (get_or-replicate a v 0 0 (omega arith));
-  next = λ i l h. absurd (omega arith);
+link_none t room nexts l h = record {
+  start_room = omega (arith, length-replicate {A = ℕ} room 0);
+  next_room = h;
+  first = λ v k. let z : t.m - t.m ≡ 0 = omega arith in rw z (get_or-replicate room v 0 0 (omega arith));
+  next = λ i k h. absurd (omega arith);
 }
 
 module _ {t : Tables} {starts nexts : List ℕ} where
