@@ -7,11 +7,11 @@ use native.Mathlib.Decide.{ℕ_discrete}
 use native.Mathlib.Numerals.{add-one}
 use native.Mathlib.Omega.{arith}
 use borrow.Author.Tests.{eq-eqb, ne_eqb}
-use lib.ListN.{length, get_or, set, replicate, length-set, length-replicate, get_or-replicate}
+use lib.ListN.{length, get_or, set, length-set}
 use lib.Seq.{get_or-set_same, get_or-set_other}
 use Rattle.meaning.specs.Region.{Tables}
 use Rattle.memory.specs.Region.{Arcs}
-use Rattle.taking.specs.Ways.{seek, seek_next, Linked, sought}
+use Rattle.taking.specs.Ways.{seek, seek_next, Unlinked, Linked, sought}
 
 -- none of the arcs from i to before j leaves `number`
 abbrev pub Apart : List ℕ → ℕ → ℕ → ℕ → Type 0
@@ -82,12 +82,12 @@ pub record Linking (t : Tables) (starts nexts : List ℕ) (left : ℕ) : Type 0 
   pub first : (v : ℕ) → v < t.n → get_or starts v 0 ≡ seek t.tails (suc v) left (t.m - left)
   pub next : (i : ℕ) → left ≤ i → i < t.m → get_or nexts i 0 ≡ seek_next t i
 
-pub link_none : (t : Tables) (room : ℕ) (nexts : List ℕ) → t.n ≤ room → t.m ≤ length nexts → Linking t (replicate room 0) nexts t.m
+pub link_none : (t : Tables) (starts nexts : List ℕ) → t.n ≤ length starts → t.m ≤ length nexts → Unlinked starts → Linking t starts nexts t.m
 unfolding seek
-link_none t room nexts l h = record {
-  start_room = omega (arith, length-replicate {A = ℕ} room 0);
+link_none t starts nexts l h bare = record {
+  start_room = l;
   next_room = h;
-  first = λ v k. let z : t.m - t.m ≡ 0 = omega arith in rw z (get_or-replicate room v 0 0 (omega arith));
+  first = λ v k. let z : t.m - t.m ≡ 0 = omega arith in rw z (bare v);
   next = λ i k h. absurd (omega arith);
 }
 

@@ -281,15 +281,12 @@ record Kept (R : Region) (s : State) (from : List ℕ) : Type 0 where
   told : (v : ℕ) → Told (Leads R s v) (get_or s.best v 0) (get_or from v 0)
   room : length from ≡ R.n
 
-abbrev zeros : ℕ → List ℕ
-zeros n = replicate n 0
-
-blank : (n v : ℕ) → get_or (zeros n) v 0 ≡ 0
+pub blank : (n v : ℕ) → get_or (replicate {A = ℕ} n 0) v 0 ≡ 0
 blank n v = go (dec_lt v n)
   where
-    go : Dec (v < n) → get_or (zeros n) v 0 ≡ 0
+    go : Dec (v < n) → get_or (replicate {A = ℕ} n 0) v 0 ≡ 0
     go (yes l) = get_or-replicate n v 0 0 l
-    go (no l) = get_or-eq_default (zeros n) 0 (rw length-replicate (omega arith))
+    go (no l) = get_or-eq_default (replicate {A = ℕ} n 0) 0 (rw length-replicate (omega arith))
 
 kept_start : (R : Region) (q : ℕ) → q < R.n → Kept R (start R q) (replicate R.n 0)
 unfolding start taken memb

@@ -21,6 +21,10 @@ seek_first t u = seek t.tails (suc u) 0 t.m
 abbrev pub seek_next : Tables → ℕ → ℕ
 seek_next t i = seek t.tails (get_or t.tails i 0) (suc i) (t.m - suc i)
 
+-- no arc is linked
+abbrev pub Unlinked : List ℕ → Type 0
+Unlinked starts = (v : ℕ) → get_or starts v 0 ≡ 0
+
 -- the first arc of each node, and after each arc the next with the same tail
 pub record Linked (t : Tables) (starts nexts : List ℕ) : Type 0 where
   pub start_room : t.n ≤ length starts

@@ -1,7 +1,7 @@
 // The region of a search with the arcs of each node in a chain, in the order of the table.
 ghost use Rattle.std.specs.Prelude.{◌≡◌, ◌<◌};
 ghost use Rattle.meaning.specs.Region.{tables_of, region_of};
-ghost use Rattle.taking.specs.Ways.{Linked, sought, seek_first, seek_next};
+ghost use Rattle.taking.specs.Ways.{Unlinked, Linked, sought, seek_first, seek_next};
 
 use meaning::{ARCS_MOST, NODES_MOST};
 use memory::Region;
@@ -16,7 +16,9 @@ pub struct Chains {
 
 impl Chains {
     // No arc is linked.
-    pub fn new() -> Chains {
+    pub fn new() -> Chains
+        ensures { Unlinked result.starts }
+    {
         Chains {
             starts: [0; NODES_MOST],
             nexts: [0; ARCS_MOST],
@@ -36,10 +38,10 @@ pub struct Network<'a> {
 impl<'a> Network<'a> {
     // The last arc is linked first.
     pub fn link(region: Region<'a>, chains: &'a mut Chains) -> Self
+        requires { Unlinked chains.old.starts }
         ensures { result.region ≡ region.entry }
     {
         let t = region.tables;
-        chains.starts = [0; NODES_MOST];
         for i in (0..t.m).rev() {
             let node = t.tails[i] as usize - 1;
             chains.nexts[i] = chains.starts[node];

@@ -3,7 +3,7 @@ use Rattle.taking.proofs.Chaining.{link_none, link_before, link_all}
 use Rattle.taking.proofs.network.Network.link.Goals as goal
 
 pub loop-i-init : goal.loop-i-init
-loop-i-init c = link_none _ _ _ c.args.region.sound.few_nodes (omega (arith, c.args.region.sound.few_arcs))
+loop-i-init c = link_none _ _ _ (omega (arith, c.args.region.sound.few_nodes)) (omega (arith, c.args.region.sound.few_arcs)) c.requires
 
 pub loop-i-preserved : goal.loop-i-preserved
 loop-i-preserved c = link_before c.loop-i.i c.loop-i-test.true c.loop-i.auto.i c.args.region.sound.arcs c.loop-i.invariant
