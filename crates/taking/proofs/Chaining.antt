@@ -1,4 +1,5 @@
--- A node's arcs in a chain: what a number in it says of the arcs, and how the chains are made, from the last arc down.
+-- A node's arcs in a chain: what a number in it says of the arcs, and how the chains are made, from
+-- the last arc down.
 use mathlib.Core.List.{List}
 use mathlib.Core.Path.{◌≡◌, refl, sym, ◌∙◌}
 use Rattle.std.specs.Prelude.{Some, None}

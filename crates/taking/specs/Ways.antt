@@ -8,7 +8,8 @@ Bounded t b w = (v : ℕ) → v < t.n → get_or w v 0 ≤ b
 
 -- ---- the arcs of a node in a chain
 
--- of k arcs from arc i on the first that leaves `number`, as one more than its place; 0 where none does
+-- of k arcs from arc i on the first that leaves `number`, as one more than its place; 0 where none
+-- does
 unfoldable pub seek : List ℕ → ℕ → ℕ → ℕ → ℕ
 seek tails number i zero = 0
 seek tails number i (suc k) = cond (eqb (get_or tails i 0) number) (suc i) (seek tails number (suc i) k)
