@@ -1,4 +1,5 @@
--- The routes of the listed sites are written back to back, and their ends: what is left to write, written from here, is the whole.
+-- The routes of the listed sites are written back to back, and their ends: what is left to write,
+-- written from here, is the whole.
 use mathlib.Core.List.{List, [], ◌∷◌, map}
 use mathlib.Core.Path.{◌≡◌, refl, ap, sym, ◌∙◌}
 use Prim.Native.Nat.{ℕ, suc, ◌+◌, ◌-◌, ◌*◌, ◌≤◌, ◌<◌}

@@ -23,7 +23,8 @@ pub record Linked (n : ℕ) (w : List ℕ) : Type 0 where
   pub room : 4 * n ≤ length w
   pub back : (v : ℕ) → v < n → get_or w (n + n + v) 0 ≤ n
 
--- what writing the first `count` routes asks: the memory leads back to nodes, and the listed sites are nodes
+-- what writing the first `count` routes asks: the memory leads back to nodes, and the listed sites
+-- are nodes
 pub record Leads (n : ℕ) (w listed : List ℕ) (count : ℕ) : Type 0 where
   pub linked : Linked n w
   pub few : count ≤ 32

@@ -1,4 +1,5 @@
--- A node's arcs in a chain: what a number in it says of the arcs, and how the chains are made, from the last arc down.
+-- A node's arcs in a chain: what a number in it says of the arcs, and how the chains are made, from
+-- the last arc down.
 use mathlib.Core.List.{List}
 use mathlib.Core.Path.{◌≡◌, refl, sym, ◌∙◌}
 use Rattle.std.specs.Prelude.{Some, None}
@@ -7,11 +8,11 @@ use native.Mathlib.Decide.{ℕ_discrete}
 use native.Mathlib.Numerals.{add-one}
 use native.Mathlib.Omega.{arith}
 use borrow.Author.Tests.{eq-eqb, ne_eqb}
-use lib.ListN.{length, get_or, set, replicate, length-set, length-replicate, get_or-replicate}
+use lib.ListN.{length, get_or, set, length-set}
 use lib.Seq.{get_or-set_same, get_or-set_other}
 use Rattle.meaning.specs.Region.{Tables}
 use Rattle.memory.specs.Region.{Arcs}
-use Rattle.taking.specs.Ways.{seek, seek_next, Linked, sought}
+use Rattle.taking.specs.Ways.{seek, seek_next, Unlinked, Linked, sought}
 
 -- none of the arcs from i to before j leaves `number`
 abbrev pub Apart : List ℕ → ℕ → ℕ → ℕ → Type 0
@@ -82,13 +83,13 @@ pub record Linking (t : Tables) (starts nexts : List ℕ) (left : ℕ) : Type 0 
   pub first : (v : ℕ) → v < t.n → get_or starts v 0 ≡ seek t.tails (suc v) left (t.m - left)
   pub next : (i : ℕ) → left ≤ i → i < t.m → get_or nexts i 0 ≡ seek_next t i
 
-pub link_none : (t : Tables) (a b : ℕ) → t.n ≤ a → t.m ≤ b → Linking t (replicate a 0) (replicate b 0) t.m
+pub link_none : (t : Tables) (starts nexts : List ℕ) → t.n ≤ length starts → t.m ≤ length nexts → Unlinked starts → Linking t starts nexts t.m
 unfolding seek
-link_none t a b la lb = record {
-  start_room = omega (arith, length-replicate {A = ℕ} a 0);
-  next_room = omega (arith, length-replicate {A = ℕ} b 0);
-  first = λ v l. let z : t.m - t.m ≡ 0 = omega arith in rw z (get_or-replicate a v 0 0 (omega arith));
-  next = λ i l h. absurd (omega arith);
+link_none t starts nexts l h bare = record {
+  start_room = l;
+  next_room = h;
+  first = λ v k. let z : t.m - t.m ≡ 0 = omega arith in rw z (bare v);
+  next = λ i k h. absurd (omega arith);
 }
 
 module _ {t : Tables} {starts nexts : List ℕ} where

@@ -84,7 +84,8 @@ module _ (t : Tables) (g : Ground t) {s : State} {from rest w : List ℕ} (L : L
       (λ u l o. found_none (open_at t.n w) (key_at t.n w) t.n (first (open_at t.n w) (key_at t.n w) t.n) (first_is (open_at t.n w) (key_at t.n w) t.n) e u l (rw (open_is L.holds u l) o))
 
   module _ (v : ℕ) (F : First (open_at t.n w) (key_at t.n w) t.n v) where
-    -- v stands there with its present estimate: no other node has a lower total, for none has a lower one under an estimate that is no higher
+    -- v stands there with its present estimate: no other node has a lower total, for none has a
+    -- lower one under an estimate that is no higher
     pub chosen_node : (j : ℕ) → T (aimed (region_of t) s j) → get_or w (t.n + v) 0 ≡ rival_at t w v → Some v ≡ next_of (choose (region_of t) (aim_of t) s)
     unfolding choose
     chosen_node j m e =

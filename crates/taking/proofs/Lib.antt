@@ -1,6 +1,7 @@
 -- the numbers of the nodes before are those that the lengths give
 pub mod Parents
--- what the memory holds after an arc reaches a node, a node closed, the start, the arcs of a node and a node taken
+-- what the memory holds after an arc reaches a node, a node closed, the start, the arcs of a node
+-- and a node taken
 mod Reaching
 mod Closing
 mod Starting

@@ -1,4 +1,5 @@
--- The numbers that are kept as arcs are followed are those of the nodes before, as the lengths give them.
+-- The numbers that are kept as arcs are followed are those of the nodes before, as the lengths give
+-- them.
 use mathlib.Core.Path.{◌≡◌, refl, sym, ap, ◌∙◌}
 use mathlib.Core.Logic.{◌⊎◌, inl, inr}
 use mathlib.Core.Bool.{Bool, true, false, not, cond, ◌||◌, ◌&&◌}
@@ -28,7 +29,8 @@ use Rattle.taking.specs.Parents.{parent_at, parent_by, parents_to, parents1, par
 abbrev entry_of : Bool → ℕ → ℕ → ℕ → ℕ → ℕ
 entry_of gone u reach a x = cond (eqb a reach) (cond (ltb (suc u) x) (suc u) x) (cond (not gone && (eqb a 0 || ltb reach a)) (suc u) x)
 
--- what an arc of u does to a length and to the number kept: a and x before, a' and x' after. It does nothing, or it gives the same length, or it opens or shortens.
+-- what an arc of u does to a length and to the number kept: a and x before, a' and x' after. It
+-- does nothing, or it gives the same length, or it opens or shortens.
 data Turn (hit free : Type 0) (u reach a a' x x' : ℕ) : Type 0 where
   same : a' ≡ a → x' ≡ x → (hit → reach ≡ a → ⊥) → Turn hit free u reach a a' x x'
   level : hit → a' ≡ a → reach ≡ a → x' ≡ cond (ltb (suc u) x) (suc u) x → Turn hit free u reach a a' x x'
@@ -139,7 +141,8 @@ record Gives (R : Region) (len : ℕ → ℕ) (at v x j : ℕ) : Type 0 where
 abbrev Gave : Region → (ℕ → ℕ → Type 0) → (ℕ → ℕ) → ℕ → ℕ → ℕ → Type 0
 Gave R done len at v x = (j : ℕ) × done x j × Gives R len at v x j
 
--- x is the number of the lowest node with P, and 0 where there is none; a node that was reached by an arc has one
+-- x is the number of the lowest node with P, and 0 where there is none; a node that was reached by
+-- an arc has one
 record Told (P : ℕ → Type 0) (a x : ℕ) : Type 0 where
   is : (y : ℕ) → x ≡ suc y → P y
   low : (y : ℕ) → P y → Within x (suc y)
@@ -281,15 +284,12 @@ record Kept (R : Region) (s : State) (from : List ℕ) : Type 0 where
   told : (v : ℕ) → Told (Leads R s v) (get_or s.best v 0) (get_or from v 0)
   room : length from ≡ R.n
 
-abbrev zeros : ℕ → List ℕ
-zeros n = replicate n 0
-
-blank : (n v : ℕ) → get_or (zeros n) v 0 ≡ 0
+pub blank : (n v : ℕ) → get_or (replicate {A = ℕ} n 0) v 0 ≡ 0
 blank n v = go (dec_lt v n)
   where
-    go : Dec (v < n) → get_or (zeros n) v 0 ≡ 0
+    go : Dec (v < n) → get_or (replicate {A = ℕ} n 0) v 0 ≡ 0
     go (yes l) = get_or-replicate n v 0 0 l
-    go (no l) = get_or-eq_default (zeros n) 0 (rw length-replicate (omega arith))
+    go (no l) = get_or-eq_default (replicate {A = ℕ} n 0) 0 (rw length-replicate (omega arith))
 
 kept_start : (R : Region) (q : ℕ) → q < R.n → Kept R (start R q) (replicate R.n 0)
 unfolding start taken memb

@@ -1,4 +1,5 @@
--- What an arc that reaches a node does to the state that the memory holds, by the node's length before.
+-- What an arc that reaches a node does to the state that the memory holds, by the node's length
+-- before.
 use mathlib.Core.Bool.{Bool, true, false, not, cond, ◌&&◌}
 use mathlib.Core.List.{List}
 use mathlib.Core.Path.{◌≡◌, refl, sym, ap, ◌∙◌}

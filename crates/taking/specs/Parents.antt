@@ -1,10 +1,12 @@
--- The number of the node before each node on the route, kept as arcs are followed: the lowest of the taken nodes that give the node its length.
+-- The number of the node before each node on the route, kept as arcs are followed: the lowest of
+-- the taken nodes that give the node its length.
 use Rattle.std.specs.Prelude.{Bool, true, false, not, cond, ◌||◌, ◌&&◌, List, ℕ, zero, suc, ◌+◌, eqb, ltb, get_or, set, replicate}
 use Rattle.std.proofs.Math.Option.{Option, none, some}
 use Rattle.meaning.specs.Region.{Region}
 use Rattle.meaning.specs.Taking.{State, taken, len_at, relax_to, mark, full, choose, after}
 
--- u's arc reaches h, at `reach`, one more than the length: where it opens or shortens, u comes before h; where it gives the same length, the lower number does
+-- u's arc reaches h, at `reach`, one more than the length: where it opens or shortens, u comes
+-- before h; where it gives the same length, the lower number does
 unfoldable pub parent_at : (ℕ → Bool) → ℕ → ℕ → ℕ → List ℕ → List ℕ → List ℕ
 parent_at tk u reach h best from =
     cond (eqb (get_or best h 0) reach) (cond (ltb (suc u) (get_or from h 0)) (set from h (suc u)) from)

@@ -9,20 +9,22 @@ use Rattle.memory.specs.Tree.{Tree}
 use Rattle.taking.specs.declared.Guide.{Guide}
 use Rattle.taking.specs.Parents.{parent_at, parents_to, parents1}
 
--- what stands beside the memory w: the sites, each far off once it is taken, and the tree of the open nodes
+-- what stands beside the memory w: the sites, each far off once it is taken, and the tree of the
+-- open nodes
 pub record Guided (t : Tables) (w : List ℕ) (g : Guide) : Type 0 where
   pub aims : SideBySide t w g.aims.xs g.aims.ys
   pub tree : Tree t.n w g.tree
 
--- The memory holds the state s, and no estimate in it is above `aim`, the present one, as long as there is a site left to aim at. As long as all sites are left, each is
--- the present one.
+-- The memory holds the state s, and no estimate in it is above `aim`, the present one, as long as
+-- there is a site left to aim at. As long as all sites are left, each is the present one.
 pub record Under (n : ℕ) (site left : ℕ → Bool) (aim : ℕ → ℕ) (s : State) (from rest w : List ℕ) : Type 0 where
   pub line : ℕ → ℕ
   pub holds : Holds n site line s from rest w
   pub low : (j : ℕ) → T (left j) → (v : ℕ) → line v ≤ aim v
   pub exact : ((j : ℕ) → T (site j) → T (left j)) → (v : ℕ) → line v ≡ aim v
 
--- the memory holds the state s of a search over the tables t, each open node with an estimate that is at most the one to the present set of sites
+-- the memory holds the state s of a search over the tables t, each open node with an estimate that
+-- is at most the one to the present set of sites
 abbrev pub Live : Tables → State → List ℕ → List ℕ → List ℕ → Type 0
 Live t s from rest w = Under t.n (is_site (region_of t)) (aimed (region_of t) s) (aim_of t (aimed (region_of t) s)) s from rest w
 
@@ -30,7 +32,8 @@ Live t s from rest w = Under t.n (is_site (region_of t)) (aimed (region_of t) s)
 abbrev pub reached : State → ℕ → ℕ → State
 reached s h at = record { best = set s.best h (lower (get_or s.best h 0) at); order = s.order }
 
--- an arc of u reaches h, whatever the estimates are: nothing changes but for h, and only if it has not been taken
+-- an arc of u reaches h, whatever the estimates are: nothing changes but for h, and only if it has
+-- not been taken
 abbrev pub Arrived : ℕ → ℕ → ℕ → ℕ → List ℕ → List ℕ → Type 0
 Arrived n u h at w w' =
     (site : ℕ → Bool) (line : ℕ → ℕ) (s : State) (from rest : List ℕ) → 1 ≤ at → Holds n site line s from rest w

@@ -8,7 +8,8 @@ Bounded t b w = (v : ℕ) → v < t.n → get_or w v 0 ≤ b
 
 -- ---- the arcs of a node in a chain
 
--- of k arcs from arc i on the first that leaves `number`, as one more than its place; 0 where none does
+-- of k arcs from arc i on the first that leaves `number`, as one more than its place; 0 where none
+-- does
 unfoldable pub seek : List ℕ → ℕ → ℕ → ℕ → ℕ
 seek tails number i zero = 0
 seek tails number i (suc k) = cond (eqb (get_or tails i 0) number) (suc i) (seek tails number (suc i) k)
@@ -20,6 +21,10 @@ seek_first t u = seek t.tails (suc u) 0 t.m
 -- the next after arc i with the same tail
 abbrev pub seek_next : Tables → ℕ → ℕ
 seek_next t i = seek t.tails (get_or t.tails i 0) (suc i) (t.m - suc i)
+
+-- no arc is linked
+abbrev pub Unlinked : List ℕ → Type 0
+Unlinked starts = (v : ℕ) → get_or starts v 0 ≡ 0
 
 -- the first arc of each node, and after each arc the next with the same tail
 pub record Linked (t : Tables) (starts nexts : List ℕ) : Type 0 where

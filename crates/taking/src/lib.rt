@@ -4,17 +4,18 @@
 // The memory stays a lent slice, as memory's own functions take it.
 #![tactic(auto)]
 
-ghost use Rattle.std.specs.Prelude.{◌≡◌, false, ◌+◌, ◌*◌, ◌%◌, ◌≤◌, ◌<◌, eqb, length, get_or, drop, replicate};
+ghost use Rattle.std.specs.Prelude.{◌≡◌, false, ℕ, ◌+◌, ◌*◌, ◌%◌, ◌≤◌, ◌<◌, eqb, length, get_or, drop, replicate};
 ghost use Rattle.meaning.specs.Region.{tables_of, region_of};
 ghost use Rattle.meaning.specs.Taking.{start as start_of};
 ghost use Rattle.memory.specs.Memory.{SiteTold, is_taken};
 ghost use Rattle.memory.specs.Aim.{SameTaken};
-ghost use Rattle.memory.specs.Tree.{Tree, SameKeys};
+ghost use Rattle.memory.specs.Tree.{Tree, Bare, SameKeys};
 ghost use Rattle.taking.specs.Ways.{Bounded};
 ghost use Rattle.taking.specs.Steps.{Guided, Live, Arrived, Reached, Relaxed, SameLens, Shut, Closed, OpenSite, Took, Looked, Aiming, Stays, Chosen};
 
+use meaning::SITES_MOST;
 use memory::{Aims, Region, Winners};
-pub use network::Network;
+pub use network::{Chains, Network};
 
 mod network;
 
@@ -26,22 +27,36 @@ pub struct Guide {
     pub tree: Winners,
 }
 
+impl Guide {
+    // No node is open.
+    pub fn new() -> Guide
+        ensures { (n : ℕ) → n ≤ 1024 → Bare n result.tree }
+    {
+        Guide {
+            aims: Aims {
+                xs: [0; SITES_MOST],
+                ys: [0; SITES_MOST],
+            },
+            tree: Winners::new(),
+        }
+    }
+}
+
 // The search starts with the query node open at length 0, and all sites are aimed at.
-pub fn start(r: &Region, work: &mut [u32], q: usize) -> Guide
-    requires { (4 * r.now.tables.n ≤ length work.old) × (q < r.now.tables.n) }
-    ensures guided { Guided (tables_of r.now.tables) work.new result }
+pub fn start(r: &Region, work: &mut [u32], guide: &mut Guide, q: usize)
+    requires n_in_bounds { (4 * r.now.tables.n ≤ length work.old) × (q < r.now.tables.n) }
+    requires bare { Bare r.now.tables.n guide.old.tree }
+    ensures guided { Guided (tables_of r.now.tables) work.new guide.new }
     ensures live { Live (tables_of r.now.tables) (start_of (region_of (tables_of r.now.tables)) q)
         (replicate r.now.tables.n 0) (drop (4 * r.now.tables.n) work.old) work.new }
 {
     let n = r.tables.n;
     memory::clear(work, n);
-    let aims = Aims::gather(r);
-    let mut tree = Winners::new();
-    let rival = memory::aim(r, work, &aims, q);
+    guide.aims = Aims::gather(r);
+    let rival = memory::aim(r, work, &guide.aims, q);
     work[q] = 1;
     work[n + q] = rival;
-    tree.replay(work, n, q);
-    Guide { aims, tree }
+    guide.tree.replay(work, n, q);
 }
 
 // Of two nodes that give h its length the lower one comes before it.

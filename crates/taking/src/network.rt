@@ -1,7 +1,7 @@
 // The region of a search with the arcs of each node in a chain, in the order of the table.
 ghost use Rattle.std.specs.Prelude.{◌≡◌, ◌<◌};
 ghost use Rattle.meaning.specs.Region.{tables_of, region_of};
-ghost use Rattle.taking.specs.Ways.{Linked, sought, seek_first, seek_next};
+ghost use Rattle.taking.specs.Ways.{Unlinked, Linked, sought, seek_first, seek_next};
 
 use meaning::{ARCS_MOST, NODES_MOST};
 use memory::Region;
@@ -9,30 +9,45 @@ use memory::Region;
 // For each node one more than its first arc, and for each arc one more than the next with the same
 // tail; 0 where there is none.
 #[derive(Drop)]
-pub struct Network<'a> {
-    pub region: Region<'a>,
+pub struct Chains {
     starts: [u16; NODES_MOST],
     nexts: [u16; ARCS_MOST],
-    ghost linked: { Linked (tables_of region.tables) starts nexts },
+}
+
+impl Chains {
+    // No arc is linked.
+    pub fn new() -> Chains
+        ensures { Unlinked result.starts }
+    {
+        Chains {
+            starts: [0; NODES_MOST],
+            nexts: [0; ARCS_MOST],
+        }
+    }
+}
+
+// A region whose arcs are linked. The chains are lent, for a copy of them costs a small search more
+// than its steps.
+#[derive(Clone, Copy)]
+pub struct Network<'a> {
+    pub region: Region<'a>,
+    chains: &'a Chains,
+    ghost linked: { Linked (tables_of region.tables) chains.now.starts chains.now.nexts },
 }
 
 impl<'a> Network<'a> {
     // The last arc is linked first.
-    pub fn link(region: Region<'a>) -> Self
+    pub fn link(region: Region<'a>, chains: &'a mut Chains) -> Self
+        requires { Unlinked chains.old.starts }
         ensures { result.region ≡ region.entry }
     {
         let t = region.tables;
-        let mut network = Network {
-            region,
-            starts: [0; NODES_MOST],
-            nexts: [0; ARCS_MOST],
-        };
         for i in (0..t.m).rev() {
             let node = t.tails[i] as usize - 1;
-            network.nexts[i] = network.starts[node];
-            network.starts[node] = (i + 1) as u16;
+            chains.nexts[i] = chains.starts[node];
+            chains.starts[node] = (i + 1) as u16;
         }
-        network
+        Network { region, chains }
     }
 
     // The first arc that leaves node u.
@@ -40,7 +55,7 @@ impl<'a> Network<'a> {
         requires { u < self.now.region.tables.n }
         ensures { result ≡ sought (seek_first (tables_of self.now.region.tables) u) }
     {
-        (self.starts[u] as usize).checked_sub(1)
+        (self.chains.starts[u] as usize).checked_sub(1)
     }
 
     // The arc after arc i that leaves the same node.
@@ -48,7 +63,7 @@ impl<'a> Network<'a> {
         requires { i < self.now.region.tables.m }
         ensures { result ≡ sought (seek_next (tables_of self.now.region.tables) i) }
     {
-        (self.nexts[i] as usize).checked_sub(1)
+        (self.chains.nexts[i] as usize).checked_sub(1)
     }
 
     // The node that arc i leads to.

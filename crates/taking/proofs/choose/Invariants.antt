@@ -3,7 +3,8 @@ use Rattle.meaning.specs.Region.{tables_of}
 use Rattle.taking.proofs.Choosing.{stale, Keeping}
 use Rattle.taking.proofs.choose.Given as goal
 
--- The loop's invariant: the same state is held. Each turn one node fewer is held under an estimate that isn't its present one.
+-- The loop's invariant: the same state is held. Each turn one node fewer is held under an estimate
+-- that isn't its present one.
 abbrev pub invariant-loop-v : goal.invariant-loop-v
 invariant-loop-v l = Keeping (tables_of l.r.tables) l.initial.work l.work l.guide
 

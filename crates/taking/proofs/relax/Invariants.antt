@@ -2,7 +2,8 @@ use Rattle.meaning.specs.Region.{tables_of}
 use Rattle.taking.proofs.Following.{Following, left}
 use Rattle.taking.proofs.relax.Given as goal
 
--- The loop's invariant: the arcs before some arc have been followed, or are other nodes', and `arc` is the next from there on.
+-- The loop's invariant: the arcs before some arc have been followed, or are other nodes', and `arc`
+-- is the next from there on.
 abbrev pub invariant-loop-arc : goal.invariant-loop-arc
 invariant-loop-arc l = Following (tables_of l.network.region.tables) l.u l.initial.work l.work l.guide l.arc
 

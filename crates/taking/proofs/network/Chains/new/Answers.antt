@@ -1,0 +1,5 @@
+use Rattle.taking.proofs.Parents.{blank}
+use Rattle.taking.proofs.network.Chains.new.Goals as goal
+
+pub returns : goal.returns
+returns c = λ v. rw blank
