@@ -1,8 +1,7 @@
 -- How the code's state, marks and rows stand to a reading's progress.
-use Rattle.std.specs.Prelude.{ℕ, suc, ◌≤◌, ◌<◌, List, [], Bool, false, cond, ◌≡◌, Option, Some, None, Result, Ok, Err, length, leb}
+use Rattle.std.specs.Prelude.{ℕ, suc, ◌≤◌, ◌<◌, List, [], Bool, false, cond, ◌≡◌, Option, Some, None, Result, Err, length, leb}
 use Rattle.meaning.specs.Limits.{base, Test, fine, and_then}
 use Rattle.meaning.specs.declared.Limits.{Limits}
-use Rattle.meaning.specs.declared.Fault.{Fault}
 use Rattle.meaning.specs.declared.Fault.TheVariants.{DataMiscounted}
 use Rattle.meaning.specs.declared.Refusal.{Refusal}
 use Rattle.meaning.specs.Files.{Progress, awaiting, begun, Next, stop, go, step, finish, answered, counts_fault, entry_fault, is_given}

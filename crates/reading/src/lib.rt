@@ -4,16 +4,10 @@
 ghost use Rattle.std.specs.Prelude.{◌≡◌, ◌≤◌, cond, length, nat_abs, Err};
 ghost use Rattle.meaning.specs.Limits.{base, fine};
 ghost use Rattle.meaning.specs.Text.{lines};
-ghost use Rattle.meaning.specs.Files.{
-    within as is_within, is_coordinate, most_rows, agrees as is_agreed, counts_fault, entry_fault,
-    node_of, awaiting, read_from, handed_in, reading, answered
-};
+ghost use Rattle.meaning.specs.Files.{within as is_within, is_coordinate, most_rows, agrees as is_agreed, counts_fault, entry_fault, node_of, awaiting, read_from, handed_in, reading, answered};
 ghost use Rattle.reading.specs.Said.{said_at};
 ghost use Rattle.reading.specs.Rows.{Wide, row_of, RowsRead};
-ghost use Rattle.reading.specs.Follows.{
-    only_once, too_many, data_fault, Small, Ready, Starts, Finishes, Answers, AnswersProblem,
-    AnswersNext
-};
+ghost use Rattle.reading.specs.Follows.{only_once, too_many, data_fault, Small, Ready, Starts, Finishes, Answers, AnswersProblem, AnswersNext};
 
 pub use marks::Marks;
 use meaning::{Counts, Entry, Fault, Kind, Limits, Line, Refusal, Rules};
@@ -22,7 +16,7 @@ mod marks;
 
 // An entry as it is kept until the last line has been judged: its node, and head and weight, or X
 // and Y.
-#[derive(Clone, Copy)]
+#[derive(Clone, Copy, Default)]
 pub struct Row {
     pub node: u16,
     pub second: i32,
@@ -121,7 +115,8 @@ fn point_fault(limits: Limits, n: usize, node: usize, x: i32, y: i32) -> Result<
     ensures { result ≡ entry_fault limits n (Entry.Point node x y) }
 {
     test(within(1, node, n), Fault::NodeOutside)?;
-    test(is_coordinate(limits, x) && is_coordinate(limits, y), Fault::ValueOutside)
+    let inside = is_coordinate(limits, x) && is_coordinate(limits, y);
+    test(inside, Fault::ValueOutside)
 }
 
 // Of a data line: 5, then 6.
@@ -313,7 +308,9 @@ fn judge(rules: Rules, text: &[u8], rows: &mut [Row]) -> Result<Counts, Refusal>
     let mut place = 0;
     while reader.at < text.len() {
         place += 1;
-        reader.next_line(text, rows).map_err(|fault| fault.at(place))?;
+        reader
+            .next_line(text, rows)
+            .map_err(|fault| fault.at(place))?;
     }
     reader.finish()
 }
@@ -327,12 +324,8 @@ pub fn judged(
     rows: &mut [Row],
 ) -> Result<Counts, Refusal>
     requires { Wide kind rows.old }
-    ensures rows_read {
-        RowsRead (reading (record { limits = base; kind = kind; given = given; room = room }) text.now) rows.new
-    }
-    ensures value {
-        result ≡ answered (reading (record { limits = base; kind = kind; given = given; room = room }) text.now)
-    }
+    ensures rows_read { RowsRead (reading (record { limits = base; kind = kind; given = given; room = room }) text.now) rows.new }
+    ensures value { result ≡ answered (reading (record { limits = base; kind = kind; given = given; room = room }) text.now) }
 {
     let limits = meaning::base();
     if limits.text < text.len() {

@@ -1,11 +1,25 @@
-use Rattle.reading.specs.Rows.{columns}
-use Rattle.readers.proofs.Outcomes.{points_fit, points_written}
+use Prim.Native.Nat.{min}
+use lib.ListN.{length}
+use Rattle.std.proofs.Common.{rules, ◌≡◌, sym}
+use Rattle.meaning.specs.Limits.{base}
+use Rattle.meaning.specs.Files.{coordinate_rules}
+use Rattle.readers.proofs.Outcomes.{Taken, taken, counted, enough, points_fit, points_written}
 use Rattle.readers.proofs.read_coordinates.Goals as goal
+use Rattle.readers.proofs.read_coordinates.Goals.{In_ok-counts}
+
+was_taken : (c : In_ok-counts) → Taken (coordinate_rules base c.args.nodes (min (length c.args.xs.now) (length c.args.ys.now))) c.args.text.now c.in_ok-counts.counts c.judged.new.rows
+was_taken c =
+    let room : c.min-room.result ≡ min (length c.args.xs.now) (length c.args.ys.now) = search rules in
+    taken _ c.args.text.now c.judged.new.rows c.judged.result c.in_ok-counts.counts (rw room at c.judged.ensures.rows_read) (rw room at c.judged.ensures.value) c.in_ok-counts.was
+
+pub slice_bounds-rows-end : goal.slice_bounds-rows-end
+slice_bounds-rows-end c = enough (was_taken (goal.at.slice_bounds-rows-end c).In_ok-counts)
+
+pub slice_bounds-write_points-end : goal.slice_bounds-write_points-end
+slice_bounds-write_points-end c = sym (counted (was_taken (goal.at.slice_bounds-write_points-end c).In_ok-counts))
 
 pub write_points-requires : goal.write_points-requires
-write_points-requires c =
-    points_fit c.args.text.now c.args.nodes c.args.xs.now c.args.ys.now c.least-room.result c.least-room.ensures (columns c.judged-answer.new.nodes c.judged-answer.new.seconds c.judged-answer.new.thirds) c.judged-answer.result _ _ c.judged-answer.ensures.rows_read c.judged-answer.ensures.value c.in-Accepted.is
+write_points-requires c = points_fit (was_taken (goal.at.write_points-requires c).In_ok-counts)
 
-pub returns-in-Accepted : goal.returns-in-Accepted
-returns-in-Accepted c =
-    points_written c.args.text.now c.args.nodes c.args.xs.now c.args.ys.now c.least-room.result c.least-room.ensures (columns c.judged-answer.new.nodes c.judged-answer.new.seconds c.judged-answer.new.thirds) c.judged-answer.result _ _ c.judged-answer.ensures.rows_read c.judged-answer.ensures.value c.in-Accepted.is _ _ c.write_points.ensures.0 c.write_points.ensures.1
+pub returns : goal.returns
+returns c = points_written (was_taken (goal.at.returns c).In_ok-counts) _ _ c.write_points.ensures.xs_are c.write_points.ensures.ys_are

@@ -1,11 +1,22 @@
-use Rattle.readers.proofs.Outcomes.{sites_fit, sites_written}
-use Rattle.reading.specs.Rows.{columns}
+use lib.ListN.{length}
+use Rattle.std.proofs.Common.{sym}
+use Rattle.meaning.specs.Limits.{base}
+use Rattle.meaning.specs.Files.{site_rules}
+use Rattle.readers.proofs.Outcomes.{Taken, taken, counted, enough, in_room, sites_written}
 use Rattle.readers.proofs.read_sites.Goals as goal
+use Rattle.readers.proofs.read_sites.Goals.{In_ok-counts}
+
+was_taken : (c : In_ok-counts) → Taken (site_rules base c.args.nodes (length c.args.sites.now)) c.args.text.now c.in_ok-counts.counts c.judged.new.rows
+was_taken c = taken _ c.args.text.now c.judged.new.rows c.judged.result c.in_ok-counts.counts c.judged.ensures.rows_read c.judged.ensures.value c.in_ok-counts.was
+
+pub slice_bounds-rows-end : goal.slice_bounds-rows-end
+slice_bounds-rows-end c = enough (was_taken (goal.at.slice_bounds-rows-end c).In_ok-counts)
+
+pub slice_bounds-write_sites-end : goal.slice_bounds-write_sites-end
+slice_bounds-write_sites-end c = sym (counted (was_taken (goal.at.slice_bounds-write_sites-end c).In_ok-counts))
 
 pub write_sites-requires : goal.write_sites-requires
-write_sites-requires c =
-    sites_fit c.args.text.now c.args.nodes c.args.sites.now (columns c.judged-answer.new.nodes c.judged-answer.new.seconds c.judged-answer.new.thirds) c.judged-answer.result _ _ c.judged-answer.ensures.rows_read c.judged-answer.ensures.value c.in-Accepted.is
+write_sites-requires c = in_room (was_taken (goal.at.write_sites-requires c).In_ok-counts)
 
-pub returns-in-Accepted : goal.returns-in-Accepted
-returns-in-Accepted c =
-    sites_written c.args.text.now c.args.nodes c.args.sites.now (columns c.judged-answer.new.nodes c.judged-answer.new.seconds c.judged-answer.new.thirds) c.judged-answer.result _ _ c.judged-answer.ensures.rows_read c.judged-answer.ensures.value c.in-Accepted.is _ c.write_sites.ensures
+pub returns : goal.returns
+returns c = sites_written (was_taken (goal.at.returns c).In_ok-counts) _ c.write_sites.ensures

@@ -1,10 +1,8 @@
-use Prim.Native.Nat.{◌-◌, ◌≤◌}
-use Rattle.readers.specs.Writing.{at_node, value_in}
-use Rattle.readers.proofs.Rows.{Stored}
+use Rattle.std.proofs.Common.{◌≡◌}
+use Rattle.readers.specs.Writing.{stored, at_node, second_in, third_in}
 use Rattle.readers.proofs.write_points.Given as goal
 
-abbrev pub invariant-loop-i : goal.invariant-loop-i
-invariant-loop-i l = (l.i ≤ l.rows) × Stored (at_node l.nodes) (value_in l.seconds) l.initial.xs l.xs l.i × Stored (at_node l.nodes) (value_in l.thirds) l.initial.ys l.ys l.i
-
-abbrev pub decreases-loop-i : goal.decreases-loop-i
-decreases-loop-i l = l.rows - l.i
+abbrev pub invariant-loop-row : goal.invariant-loop-row
+invariant-loop-row l =
+    (l.xs ≡ stored (at_node l.rows) (second_in l.rows) l.row-index l.initial.xs)
+    × (l.ys ≡ stored (at_node l.rows) (third_in l.rows) l.row-index l.initial.ys)

@@ -1,10 +1,6 @@
-use Prim.Native.Nat.{◌-◌, ◌≤◌}
-use Rattle.readers.specs.Writing.{in_order, node_in}
-use Rattle.readers.proofs.Rows.{Stored}
+use Rattle.std.proofs.Common.{◌≡◌}
+use Rattle.readers.specs.Writing.{stored, in_order, node_in}
 use Rattle.readers.proofs.write_sites.Given as goal
 
 abbrev pub invariant-loop-i : goal.invariant-loop-i
-invariant-loop-i l = (l.i ≤ l.rows) × Stored in_order (node_in l.nodes) l.initial.sites l.sites l.i
-
-abbrev pub decreases-loop-i : goal.decreases-loop-i
-decreases-loop-i l = l.rows - l.i
+invariant-loop-i l = l.sites ≡ stored in_order (node_in l.rows) l.i l.initial.sites
