@@ -51,8 +51,10 @@ pub fn write_routes(
 )
     requires leads { Leads n work.now listed.now count }
     requires count_in_bounds { (count ≤ length ends.old) × (count * n ≤ length routes.old) }
-    ensures ends_after { ends.new ≡ over (ends_after 0 (lines_in n work.now (take count listed.now))) ends.old }
-    ensures routes_after { routes.new ≡ over (back_to_back (lines_in n work.now (take count listed.now))) routes.old }
+    ensures ends_after { ends.new
+        ≡ over (ends_after 0 (lines_in n work.now (take count listed.now))) ends.old }
+    ensures routes_after { routes.new
+        ≡ over (back_to_back (lines_in n work.now (take count listed.now))) routes.old }
 {
     let mut at = 0;
     for i in 0..count {

@@ -1,4 +1,5 @@
-// A step of the taking rule, in the work memory: the search's start, a node chosen, and a node taken.
+// A step of the taking rule, in the work memory: the search's start, a node chosen, and a node
+// taken.
 //
 // The memory stays a lent slice, as memory's own functions take it.
 #![tactic(auto)]
@@ -181,9 +182,9 @@ fn fresh(r: &Region, work: &mut [u32], guide: &mut Guide, v: usize) -> bool
     false
 }
 
-// The open node to be taken next. Taking sites only raises estimates, so one made earlier is at most
-// the present one: only of the node at the tree's top it is made anew, and only where a site has been
-// taken (missed).
+// The open node to be taken next. Taking sites only raises estimates, so one made earlier is at
+// most the present one: only of the node at the tree's top it is made anew, and only where a site
+// has been taken (missed).
 pub fn choose(r: &Region, work: &mut [u32], guide: &mut Guide, missed: bool) -> Option<usize>
     requires guided { Guided (tables_of r.now.tables) work.old guide.old }
     requires aiming { Aiming (tables_of r.now.tables) work.old }

@@ -16,24 +16,23 @@ pub struct Network<'a> {
     ghost linked: { Linked (tables_of region.tables) starts nexts },
 }
 
-impl Network<'_> {
+impl<'a> Network<'a> {
     // The last arc is linked first.
-    pub fn link<'a>(region: Region<'a>) -> Network<'a>
+    pub fn link(region: Region<'a>) -> Self
         ensures { result.region ≡ region.entry }
     {
         let t = region.tables;
-        let mut starts = [0; NODES_MOST];
-        let mut nexts = [0; ARCS_MOST];
+        let mut network = Network {
+            region,
+            starts: [0; NODES_MOST],
+            nexts: [0; ARCS_MOST],
+        };
         for i in (0..t.m).rev() {
             let node = t.tails[i] as usize - 1;
-            nexts[i] = starts[node];
-            starts[node] = (i + 1) as u16;
+            network.nexts[i] = network.starts[node];
+            network.starts[node] = (i + 1) as u16;
         }
-        Network {
-            region,
-            starts,
-            nexts,
-        }
+        network
     }
 
     // The first arc that leaves node u.
