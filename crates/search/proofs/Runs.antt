@@ -284,7 +284,7 @@ module _ {t : Tables} {q k : ℕ} (P : Passed t q k) {i : ℕ} {work listed leng
 
   pub stepped : {site : Bool} {w'' l' d' : List ℕ} {c' : ℕ} → c < length listed → c < length lengths
       → SiteTold t.n w' u site → Took t u w' w'' → Put site u (get_or w'' u 0 - 1) c l d l' d' c' → Ran t q k (i + 1) work listed lengths w'' l' d' c' (n + 1)
-  stepped room₁ room₂ told took put = rw (add-one, add-one) (advanced P ran_on picks.wanted picks.left room₁ room₂ node told took put)
+  stepped room₁ room₂ told took put = rw (add-one i, add-one n) (advanced P ran_on picks.wanted picks.left room₁ room₂ node told took put)
 
 -- what the loop keeps to
 pub record Going (t : Tables) (q k : ℕ) (work₀ listed₀ lengths₀ : List ℕ) (guide : Guide) (work listed lengths : List ℕ) (sites taken : ℕ) : Type 0 where
