@@ -34,7 +34,9 @@ impl Marks {
         requires { k < 1024 }
         ensures { result ≡ is_marked self.now k }
     {
-        self.words[k / WORD] >> (k % WORD) & 1 == 1
+        let word = k >> 5;
+        let bit = k & 31;
+        self.words[word] >> bit & 1 == 1
     }
 
     // Puts k into the set.
@@ -42,6 +44,8 @@ impl Marks {
         requires { k < 1024 }
         ensures { Added self.old k self.new }
     {
-        self.words[k / WORD] |= 1 << (k % WORD);
+        let word = k >> 5;
+        let bit = k & 31;
+        self.words[word] |= 1 << bit;
     }
 }

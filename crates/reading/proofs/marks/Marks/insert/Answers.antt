@@ -1,5 +1,6 @@
 use Rattle.std.proofs.Common.{arith}
 use Rattle.reading.proofs.Bits.{added}
+use lib.Bits.{and_mask}
 use lib.Pow.{shl_exact}
 use native.Mathlib.Nat.{one-mul}
 use Prim.Native.Nat.{◌%◌}
@@ -7,5 +8,5 @@ use Rattle.reading.proofs.marks.Marks.insert.Goals as goal
 
 pub returns : goal.returns
 returns c =
-    rw (← c.self.view_is, shl_exact {a = 1} 1 (c.args.k % 32) 32 (omega arith) (omega arith), one-mul)
+    rw (← c.self.view_is, and_mask c.args.k 5, shl_exact {a = 1} 1 (c.args.k % 32) 32 (omega arith) (omega arith), one-mul)
     (added c.self.inside.words c.args.k (omega (arith, c.self.told)))
