@@ -26,8 +26,8 @@ impl Chains {
     }
 }
 
-// A region whose arcs are linked. The chains are lent, for a copy of them costs a small search more
-// than its steps.
+// A region whose arcs are linked. The chains are lent, for a small search is slower with a copy of
+// them.
 #[derive(Clone, Copy)]
 pub struct Network<'a> {
     pub region: Region<'a>,
