@@ -8,12 +8,13 @@ ghost use Rattle.std.specs.Prelude.{◌≡◌, ◌-◌, ◌*◌, ◌≤◌, ◌<
 ghost use Rattle.meaning.specs.Limits.{base};
 ghost use Rattle.meaning.specs.Region.{tables_of, rooms};
 ghost use Rattle.meaning.specs.Search.{Searched, Panelled, stretch, begin_of, between};
+ghost use Rattle.memory.specs.Tree.{Bare};
 ghost use Rattle.taking.specs.Steps.{Guided, Aiming};
 ghost use Rattle.search.specs.Run.{Passed, Picked, Put, Ran};
 
 use meaning::{PANEL_K, Refusal, Tables, Tally};
 use memory::Region;
-use taking::{Guide, Network};
+use taking::{Chains, Guide, Network};
 
 // The node to be taken next: none once k sites or all of them are listed, or where no node is open.
 fn next(r: &Region, work: &mut [u32], guide: &mut Guide, k: usize, sites: usize) -> Option<usize>
@@ -56,6 +57,7 @@ fn list(
 // The taking rule, from its start to its stop. The list is filled as sites are taken.
 fn run(
     network: &Network,
+    guide: &mut Guide,
     query: usize,
     k: usize,
     work: &mut [u32],
@@ -63,6 +65,7 @@ fn run(
     lengths: &mut [u32],
 ) -> Tally
     requires passed { Passed (tables_of network.now.region.tables) query k }
+    requires bare { Bare network.now.region.tables.n guide.old.tree }
     requires room { (4 * network.now.region.tables.n ≤ length work.old)
         × ((k ≤ length listed.old) × (k ≤ length lengths.old)) }
     ensures { Ran (tables_of network.now.region.tables) query k network.now.region.tables.n
@@ -70,11 +73,11 @@ fn run(
         result.sites result.taken }
 {
     let r = &network.region;
-    let mut guide = taking::start(r, work, query - 1);
+    taking::start(r, work, guide, query - 1);
     let mut sites = 0;
     let mut taken = 0;
-    while let Some(u) = next(r, work, &mut guide, k, sites) {
-        let site = taking::take(network, work, &mut guide, u);
+    while let Some(u) = next(r, work, guide, k, sites) {
+        let site = taking::take(network, work, guide, u);
         sites = list(work, r.tables.n, u, site, listed, lengths, sites);
         taken += 1;
     }
@@ -97,8 +100,10 @@ pub fn search(
         (rooms work.new listed.new lengths.new ends.new routes.new) result }
 {
     inspect::inspect(t, query, k, work, listed, lengths, ends, routes)?;
-    let network = Network::link(Region { tables: *t });
-    let tally = run(&network, query, k, work, listed, lengths);
+    let mut chains = Chains::new();
+    let mut guide = Guide::new();
+    let network = Network::link(Region { tables: *t }, &mut chains);
+    let tally = run(&network, &mut guide, query, k, work, listed, lengths);
     routes::write_routes(work, t.n, listed, tally.sites, ends, routes);
     memory::clear(work, t.n);
     Ok(tally)

@@ -11,11 +11,11 @@ use Rattle.search.proofs.run.Goals.{After-list-sites}
 pub overflow_sub-query : goal.overflow_sub-query
 overflow_sub-query c = query_low c.requires.passed
 
-pub start-guide-requires : goal.start-guide-requires
-start-guide-requires c = (c.requires.room.0, query_below c.requires.passed)
+pub start-requires-clause-n_in_bounds : goal.start-requires-clause-n_in_bounds
+start-requires-clause-n_in_bounds c = (c.requires.room.0, query_below c.requires.passed)
 
 pub loop-u-init : goal.loop-u-init
-loop-u-init c = record { ran = begun c.start-guide.ensures.live; guided = c.start-guide.ensures.guided }
+loop-u-init c = record { ran = begun c.start.ensures.live; guided = c.start.ensures.guided }
 
 pub next-requires-clause-aiming : goal.next-requires-clause-aiming
 next-requires-clause-aiming c =
