@@ -1,8 +1,8 @@
 -- A line in its plain form, field by field: what stands there, and so what it says.
-use Rattle.std.proofs.Common.{◌≡◌, ℕ, zero, suc, ◌+◌, ◌-◌, ◌*◌, ◌^◌, ◌<◌, ◌≤◌, Bool, true, false, cond, not, ◌&&◌, leb, List, [], ◌∷◌, ◌++◌, length, get_or, take, drop, ℤ, pos, neg_ℤ, sym, refl, ap, ◌∙◌, append_assoc, append-nil, add-one, one-add, arith, length-append, length-drop, drop-cons, ne_eqb, le-leb, Some, None}
+use Rattle.std.proofs.Common.{◌≡◌, ℕ, zero, suc, ◌+◌, ◌-◌, ◌*◌, ◌^◌, ◌<◌, ◌≤◌, Bool, true, false, not, List, [], ◌∷◌, ◌++◌, length, get_or, take, drop, ℤ, pos, neg_ℤ, sym, refl, ap, ◌∙◌, append_assoc, append-nil, add-one, one-add, arith, length-append, length-drop, drop-cons, ne_eqb, le-leb, Some, None}
 use native.Mathlib.Nat.{pow-le-pow_right, pow-suc}
 use lib.Seq.{take-append_seam, drop-append_seam}
-use Rattle.meaning.specs.Text.{trim, fields, is_blank, is_digit, digits, number}
+use Rattle.meaning.specs.Text.{trim, fields, is_blank, is_digit, digits}
 use Rattle.meaning.specs.Grammar.{line_of}
 use Rattle.meaning.specs.declared.Entry.{Entry}
 use Rattle.meaning.specs.declared.Entry.TheVariants.{Arc, Point, Site}
@@ -124,16 +124,13 @@ pub record Sofar (text : List ℕ) (at i v : ℕ) : Type 0 where
   pub small : v < 10 ^ length field
   pub inks : Above 32 field
 
-pub sofar_none : (text : List ℕ) (at : ℕ) → Sofar text at at 0
-sofar_none text at = record { field = []; stands = refl; size = omega arith; value = refl; small = omega arith; inks = tt }
-
 one_digit : (b d v : ℕ) → d ≤ 9 → b ≡ d + 48 → digits v (b ∷ []) ≡ Some (v * 10 + d)
 one_digit b d v l e =
     let k : b - 48 ≡ d = omega arith in
     rw (le-leb 48 b (omega arith), le-leb b 57 (omega arith), k)
 
 module _ {text : List ℕ} {at i v : ℕ} (s : Sofar text at i v) where
-  pub sofar_small : i < at + 10 → v < 1000000000
+  sofar_small : i < at + 10 → v < 1000000000
   sofar_small h = omega (arith, s.small, s.size, pow-le-pow_right {n = 10} (omega arith) {i = length s.field} {j = 9} (omega (arith, s.size)))
 
   module _ (h : i < length text) where
@@ -168,23 +165,8 @@ module _ {text : List ℕ} {at i v : ℕ} (s : Sofar text at i v) where
       };
     }
 
--- a number, and so no minus sign in front
-no_digit : (t : Bool) (v : ℕ) → cond t None None ≡ Some v → ⊥
-no_digit true v h = let z : ◌≡◌ {A = ℕ} 0 1 = cc in omega arith
-no_digit false v h = let z : ◌≡◌ {A = ℕ} 0 1 = cc in omega arith
-
-no_minus : (f : List ℕ) (v : ℕ) → number f ≡ Some v → get_or f 0 0 ≡ 45 → ⊥
-no_minus [] v h e = omega arith
-no_minus (b ∷ f) v h e = no_digit (leb 1 (suc (length f)) && leb (suc (length f)) 9) v (rw e at h)
-
+-- a minus sign, and a number behind it
 module _ {text : List ℕ} {at end next v : ℕ} where
-  pub coordinate_plus : NumberRead text at end v next → SignedRead text at end (pos v) next
-  coordinate_plus r = record {
-    field = r.field;
-    here = r.here;
-    known = rw (ne_eqb (get_or r.field 0 0) 45 (no_minus r.field v r.known), r.known);
-  }
-
   pub coordinate_minus : (at < length text) × (get_or text at 0 ≡ 45) → NumberRead text (at + 1) end v next
       → SignedRead text at end (neg_ℤ (pos v)) next
   coordinate_minus h r = record {

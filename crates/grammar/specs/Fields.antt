@@ -1,4 +1,4 @@
--- What the code asks of the fields of a line.
+-- What the code asks of the fields of a line, and the line that it makes of them.
 use Rattle.std.specs.Prelude.{◌≡◌, Bool, ℕ, List, Option, Some, None}
 use Rattle.meaning.specs.Text.{fields, first, others, none, same}
 use Rattle.meaning.specs.declared.Counts.{Counts}

@@ -1,6 +1,7 @@
 -- What is known of a line that was read in one go. Where the code answers None nothing is said: the
 -- line is then read field by field.
-use Rattle.std.specs.Prelude.{◌≡◌, ℕ, ◌+◌, ◌<◌, ◌≤◌, List, [], ◌∷◌, ◌++◌, length, take, drop, ℤ, Some}
+use Rattle.std.specs.Prelude.{◌≡◌, ℕ, ◌+◌, ◌<◌, ◌≤◌, ℤ, Some}
+use Rattle.std.specs.Prelude.{List, [], ◌∷◌, ◌++◌, length, take, drop}
 use Rattle.meaning.specs.Text.{trim, fields, number, signed}
 use Rattle.meaning.specs.Grammar.{line_of}
 use Rattle.meaning.specs.declared.Entry.{Entry}

@@ -3,7 +3,8 @@
 
 ghost use Rattle.std.specs.Prelude.{◌≡◌, true, false, MatchOption};
 ghost use Rattle.meaning.specs.Text.{fields, first, others};
-ghost use Rattle.meaning.specs.Grammar.{aux_count, problem_of, data_of, line_of, word_a, word_v, word_s};
+ghost use Rattle.meaning.specs.Grammar.{aux_count, problem_of, data_of, line_of};
+ghost use Rattle.meaning.specs.Grammar.{word_a, word_v, word_s};
 ghost use Rattle.meaning.specs.declared.Kind.TheVariants.{Graph, Coordinates, Sites};
 ghost use Rattle.grammar.specs.Fields.{IsNext, IsLast, problem_line, data_line};
 
@@ -17,7 +18,8 @@ fn past<'a>(rest: &'a [u8], w: &[u8]) -> Option<&'a [u8]>
     ensures { MatchOption result (IsNext w.now rest.now false)
         (λ r. IsNext w.now rest.now true × (fields r.now ≡ others (fields rest.now))) }
 {
-    text::same(text::word(rest), w).then(|| text::after(rest))
+    let (word, others) = text::split_word(rest);
+    text::same(word, w).then_some(others)
 }
 
 // The next field, if no field is after it.
@@ -25,27 +27,29 @@ fn last(rest: &[u8]) -> Option<&[u8]>
     ensures { MatchOption result (IsLast rest.now false)
         (λ f. IsLast rest.now true × (f.now ≡ first (fields rest.now))) }
 {
-    text::ended(text::after(rest)).then(|| text::word(rest))
+    let (word, others) = text::split_word(rest);
+    text::ended(others).then_some(word)
 }
 
 // aux, sp and a third word, then one number and no more.
 fn aux_count(rest: &[u8], third: &[u8]) -> Option<usize>
     ensures { result ≡ aux_count third.now (fields rest.now) }
 {
-    let second = past(rest, b"aux")?;
-    let word = past(second, b"sp")?;
-    let count = past(word, third)?;
-    text::number(last(count)?)
+    let rest = past(rest, b"aux")?;
+    let rest = past(rest, b"sp")?;
+    let rest = past(rest, third)?;
+    text::number(last(rest)?)
 }
 
 // sp N M
 fn graph_counts(given: usize, rest: &[u8]) -> Option<Counts>
     ensures { problem_line result ≡ problem_of Graph given (fields rest.now) }
 {
-    let counts = past(rest, b"sp")?;
-    let nodes = text::number(text::word(counts))?;
-    let rows = text::number(last(text::after(counts))?)?;
-    Some(Counts { nodes, rows })
+    let (nodes, rows) = text::split_word(past(rest, b"sp")?);
+    Some(Counts {
+        nodes: text::number(nodes)?,
+        rows: text::number(last(rows)?)?,
+    })
 }
 
 // The fields of a problem line after p.
@@ -63,30 +67,35 @@ fn problem_of(kind: Kind, given: usize, rest: &[u8]) -> Option<Counts>
 fn arc_of(rest: &[u8]) -> Option<Entry>
     ensures { data_line result ≡ data_of Graph word_a (fields rest.now) }
 {
-    let second = text::after(rest);
-    let tail = text::number(text::word(rest))?;
-    let head = text::number(text::word(second))?;
-    let weight = text::number(last(text::after(second))?)?;
-    Some(Entry::Arc { tail, head, weight })
+    let (tail, rest) = text::split_word(rest);
+    let (head, rest) = text::split_word(rest);
+    Some(Entry::Arc {
+        tail: text::number(tail)?,
+        head: text::number(head)?,
+        weight: text::number(last(rest)?)?,
+    })
 }
 
 // ID X Y
 fn point_of(rest: &[u8]) -> Option<Entry>
     ensures { data_line result ≡ data_of Coordinates word_v (fields rest.now) }
 {
-    let second = text::after(rest);
-    let node = text::number(text::word(rest))?;
-    let x = text::signed(text::word(second))?;
-    let y = text::signed(last(text::after(second))?)?;
-    Some(Entry::Point { node, x, y })
+    let (node, rest) = text::split_word(rest);
+    let (x, rest) = text::split_word(rest);
+    Some(Entry::Point {
+        node: text::number(node)?,
+        x: text::signed(x)?,
+        y: text::signed(last(rest)?)?,
+    })
 }
 
 // ID
 fn site_of(rest: &[u8]) -> Option<Entry>
     ensures { data_line result ≡ data_of Sites word_s (fields rest.now) }
 {
-    let node = text::number(last(rest)?)?;
-    Some(Entry::Site { node })
+    Some(Entry::Site {
+        node: text::number(last(rest)?)?,
+    })
 }
 
 // The fields of a data line after its first word.
@@ -108,11 +117,10 @@ pub fn line_of(kind: Kind, given: usize, line: &[u8]) -> Line
     if text::ended(line) {
         return Line::Nothing;
     }
-    let word = text::word(line);
+    let (word, rest) = text::split_word(line);
     if text::same(word, b"c") {
         return Line::Nothing;
     }
-    let rest = text::after(line);
     if text::same(word, b"p") {
         problem_of(kind, given, rest).map_or(Line::Malformed, Line::Problem)
     } else {

@@ -5,9 +5,7 @@
 ghost use Rattle.std.specs.Prelude.{◌≡◌, ◌≤◌, length};
 ghost use Rattle.meaning.specs.Limits.{base};
 ghost use Rattle.meaning.specs.Files.{GraphRead, CoordinatesRead, SitesRead};
-ghost use Rattle.readers.specs.Writing.{
-    stored, in_order, at_node, node_in, second_in, third_in, head_in, weight_in, ArcRows, PointRows
-};
+ghost use Rattle.readers.specs.Writing.{stored, in_order, at_node, node_in, second_in, third_in, head_in, weight_in, ArcRows, PointRows};
 
 use meaning::{ARCS_MOST, Counts, Kind, NODES_MOST, Refusal, SITES_MOST};
 use reading::Row;
@@ -15,15 +13,9 @@ use reading::Row;
 // The rows of an accepted graph text go into the tables.
 fn write_arcs(rows: &[Row], tails: &mut [u16], heads: &mut [u16], weights: &mut [u32])
     requires { ArcRows rows.now tails.old heads.old weights.old }
-    ensures tails_are {
-        tails.new ≡ stored in_order (node_in rows.now) (length rows.now) tails.old
-    }
-    ensures heads_are {
-        heads.new ≡ stored in_order (head_in rows.now) (length rows.now) heads.old
-    }
-    ensures weights_are {
-        weights.new ≡ stored in_order (weight_in rows.now) (length rows.now) weights.old
-    }
+    ensures tails_are { tails.new ≡ stored in_order (node_in rows.now) (length rows.now) tails.old }
+    ensures heads_are { heads.new ≡ stored in_order (head_in rows.now) (length rows.now) heads.old }
+    ensures weights_are { weights.new ≡ stored in_order (weight_in rows.now) (length rows.now) weights.old }
 {
     for (i, row) in rows.iter().enumerate() {
         tails[i] = row.node;
@@ -35,12 +27,8 @@ fn write_arcs(rows: &[Row], tails: &mut [u16], heads: &mut [u16], weights: &mut 
 // The rows of an accepted coordinate text, each at its node.
 fn write_points(rows: &[Row], xs: &mut [i32], ys: &mut [i32])
     requires { PointRows rows.now xs.old ys.old }
-    ensures xs_are {
-        xs.new ≡ stored (at_node rows.now) (second_in rows.now) (length rows.now) xs.old
-    }
-    ensures ys_are {
-        ys.new ≡ stored (at_node rows.now) (third_in rows.now) (length rows.now) ys.old
-    }
+    ensures xs_are { xs.new ≡ stored (at_node rows.now) (second_in rows.now) (length rows.now) xs.old }
+    ensures ys_are { ys.new ≡ stored (at_node rows.now) (third_in rows.now) (length rows.now) ys.old }
 {
     for row in rows {
         let k = usize::from(row.node) - 1;

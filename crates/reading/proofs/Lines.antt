@@ -1,19 +1,19 @@
 -- The lines of a text one after the other, as the loop walks over them.
 use Prim.Native.Nat.{ℕ, zero, suc, ◌+◌, ◌-◌, ◌/◌, ◌%◌, ◌^◌, ◌≤◌, ◌<◌}
-use mathlib.Core.Path.{◌≡◌, refl, ap, sym, ◌∙◌, subst}
-use mathlib.Core.List.{List, ◌∷◌}
+use mathlib.Core.Path.{◌≡◌, refl, ap, sym, ◌∙◌}
+use mathlib.Core.List.{List}
 use mathlib.Core.Bool.{Bool, true, false, cond}
-use lib.ListN.{length, take, drop, get_or, replicate, length-drop, drop_of_length-le}
+use lib.ListN.{length, take, drop, get_or, replicate, drop_of_length-le}
 use lib.Dec.{ltb, eqb}
 use native.Mathlib.Nat.{zero-div}
 use native.Mathlib.Numerals.{add-one}
 use native.Mathlib.Omega.{arith}
-use borrow.Author.Tests.{lt-ltb, ltb-true, le-leb, lt-leb}
-use Rattle.std.specs.Prelude.{Option, Some, None, Result, Ok, Err, MatchResult}
+use borrow.Author.Tests.{lt-ltb, ltb-true}
+use Rattle.std.specs.Prelude.{Some, None, Result, Ok, Err, MatchResult}
 use Rattle.std.specs.Result.{is_ok, IsErrAnd}
 use Rattle.meaning.specs.Text.{lines, trim, fields}
 use Rattle.meaning.specs.Grammar.{line_of}
-use Rattle.meaning.specs.Limits.{base, Test, fine, refusal}
+use Rattle.meaning.specs.Limits.{Test, fine}
 use Rattle.meaning.specs.Files.{Progress, awaiting, begun, Next, stop, go, step, on_next, Reading, refused, read, read_from, finish}
 use Rattle.meaning.specs.declared.Fault.{Fault}
 use Rattle.meaning.specs.declared.Refusal.{Refusal}
@@ -30,8 +30,8 @@ use Rattle.text.specs.declared.Piece.{Piece}
 use Rattle.text.proofs.Laws.{line_inside, lines_at}
 use Rattle.grammar.specs.Plain.{first_says}
 use Rattle.reading.specs.Said.{said_at}
-use Rattle.reading.specs.Rows.{Wide, Rows, RowsRead}
-use Rattle.reading.specs.Follows.{moved_to, Ready, entries_since, Keeps, Went, Starts, Follows, AnswersNext}
+use Rattle.reading.specs.Rows.{Rows, RowsRead}
+use Rattle.reading.specs.Follows.{moved_to, entries_since, Keeps, Went, Starts, Follows, AnswersNext}
 use Rattle.reading.specs.declared.Said.{Said}
 use Rattle.reading.specs.declared.Reader.{Reader}
 use Rattle.reading.specs.declared.Row.{Row}
@@ -150,14 +150,7 @@ gone : (R : Rules) (at : ℕ) (r : Test) (s : Reader) (rows : List Row) → r �
 gone R at r s rows is (stop fault) f = absurd (not_fine fault (sym f ∙ is))
 gone R at r s rows is (go p) f = record { progress = p; same = refl; went = f.1 }
 
-module _ (R : Rules) (text : List ℕ) (rows₀ : List Row) (s : Reader) (rows : List Row) (place : ℕ) (j : Judged R text rows₀ s rows place) where
-  pub judged_ready : R.limits ≡ base → Wide R.kind rows₀ → Ready s rows
-  judged_ready b w = record {
-    limits = rw j.rules_are b;
-    passed = j.keeps.passed;
-    wide = rw (j.rules_are, j.size) w;
-  }
-
+module _ {R : Rules} {text : List ℕ} {rows₀ : List Row} {s : Reader} {rows : List Row} {place : ℕ} (j : Judged R text rows₀ s rows place) where
   -- the next line, and the code's answer to it
   module _ (h : s.at < length text) (r : Test) (s' : Reader) (rows' : List Row) (answers : AnswersNext text s rows r s' rows') where
     abbrev said : Said

@@ -1,17 +1,17 @@
 -- Each way on from a line, as the rules have it.
-use Prim.Native.Nat.{ℕ, suc, ◌+◌, ◌-◌, ◌*◌, ◌≤◌, ◌<◌}
-use mathlib.Core.Path.{◌≡◌, refl, ap, sym, ◌∙◌, subst}
-use mathlib.Core.List.{List, [], ◌∷◌, ◌++◌, map, map-append}
+use Prim.Native.Nat.{ℕ, suc, ◌+◌, ◌-◌, ◌≤◌, ◌<◌}
+use mathlib.Core.Path.{◌≡◌, refl, ap, sym, ◌∙◌}
+use mathlib.Core.List.{List, [], ◌∷◌, ◌++◌, map-append}
 use mathlib.Core.Bool.{Bool, true, false, cond, ◌&&◌, ◌||◌, or_comm}
-use lib.ListN.{length, take, set, length-append}
+use lib.ListN.{length, set, length-append}
 use lib.Seq.{take-suc-set}
 use lib.Dec.{leb, eqb}
 use native.Mathlib.Numerals.{add-one}
 use native.Mathlib.Omega.{arith}
 use borrow.Author.Tests.{eq-eqb, ne_eqb, eqb-true, eqb-false, leb-false, leb-true, lt-leb}
-use Rattle.std.specs.Prelude.{Option, Some, None, Result, Ok, Err}
+use Rattle.std.specs.Prelude.{Option, Some, None, Ok, Err}
 use Rattle.meaning.specs.Limits.{base, Test, fine, and_then}
-use Rattle.meaning.specs.Files.{within, most_rows, agrees, counts_fault, entry_fault, node_of, is_given, repeated, Progress, awaiting, begun, Next, stop, go, unless, step}
+use Rattle.meaning.specs.Files.{within, most_rows, agrees, counts_fault, entry_fault, node_of, is_given, repeated, awaiting, begun, Next, stop, unless}
 use Rattle.meaning.proofs.Tests.{both, passed, failed, within_is, then_fine, not_fine}
 use Rattle.meaning.proofs.Reading.{arc_fine, node_fine, given_more}
 use Rattle.meaning.specs.declared.Limits.{Limits}
@@ -26,7 +26,7 @@ use Rattle.meaning.specs.declared.Entry.TheVariants.{Arc, Point, Site}
 use Rattle.meaning.specs.declared.Line.TheVariants.{Data}
 use Rattle.reading.specs.Marks.{is_marked, Added}
 use Rattle.reading.specs.Rows.{row_of, Rows}
-use Rattle.reading.specs.Follows.{only_once, data_fault, Small, Ready, Passed, Keeps, Tracks, Follows, Answers}
+use Rattle.reading.specs.Follows.{only_once, data_fault, Small, Ready, Keeps, Tracks, Follows, Answers}
 use Rattle.reading.specs.declared.Reader.{Reader}
 use Rattle.reading.specs.declared.Row.{Row}
 
@@ -164,14 +164,17 @@ module _ (s : Reader) (rows : List Row) (e : Entry) (c : Counts) (some : s.count
         → Answers s rows (Data e) fine (record { rules = s.rules; at = s.at; counts = s.counts; count = s.count + 1; marks = marks' }) (set rows s.count (row_of e))
     data_on t marks' a awaiting k = absurd (awaits k)
     data_on t marks' a (begun d es) k =
-        rw (few d es k, passes d es k, again es k.tracks ∙ t) (refl, record {
-          rules_are = refl;
-          at_is = refl;
-          keeps = record {
-            counts_are = k.counts_are;
-            passed = k.passed;
-            count_is = ap (λ (n : ℕ). n + 1) k.count_is ∙ sym (length-append es (e ∷ []));
-            tracks = track_on s.marks es k.tracks marks' e data_fits.low a;
-            rows_are = rw k.count_is (rows_on es e rows (rw k.count_is at data_fits.inside) k.rows_are);
-          };
-        })
+        rw (few d es k, passes d es k, again es k.tracks ∙ t) (
+          refl,
+          record {
+            rules_are = refl;
+            at_is = refl;
+            keeps = record {
+              counts_are = k.counts_are;
+              passed = k.passed;
+              count_is = ap (λ (n : ℕ). n + 1) k.count_is ∙ sym (length-append es (e ∷ []));
+              tracks = track_on s.marks es k.tracks marks' e data_fits.low a;
+              rows_are = rw k.count_is (rows_on es e rows (rw k.count_is at data_fits.inside) k.rows_are);
+            };
+          },
+        )

@@ -1,8 +1,7 @@
 -- How the code's state, marks and rows stand to a reading's progress.
-use Rattle.std.specs.Prelude.{ℕ, suc, ◌≤◌, ◌<◌, List, [], Bool, false, cond, ◌≡◌, Option, Some, None, Result, Ok, Err, length, leb}
+use Rattle.std.specs.Prelude.{ℕ, suc, ◌≤◌, ◌<◌, List, [], Bool, false, cond, ◌≡◌, Option, Some, None, Result, Err, length, leb}
 use Rattle.meaning.specs.Limits.{base, Test, fine, and_then}
 use Rattle.meaning.specs.declared.Limits.{Limits}
-use Rattle.meaning.specs.declared.Fault.{Fault}
 use Rattle.meaning.specs.declared.Fault.TheVariants.{DataMiscounted}
 use Rattle.meaning.specs.declared.Refusal.{Refusal}
 use Rattle.meaning.specs.Files.{Progress, awaiting, begun, Next, stop, go, step, finish, answered, counts_fault, entry_fault, is_given}
@@ -27,11 +26,11 @@ only_once (Arc u v w) given = false
 only_once (Point v x y) given = given
 only_once (Site v) given = given
 
--- 7 where the entries are as many as the count
+-- refused where the entries are as many as the count
 abbrev pub too_many : ℕ → ℕ → Test
 too_many rows count = cond (leb rows count) (Err DataMiscounted) fine
 
--- 7, then 5 and 6
+-- one too many, then the entry's own
 abbrev pub data_fault : Limits → Counts → ℕ → Entry → Test
 data_fault L c count e = and_then (too_many c.rows count) (entry_fault L c.nodes e)
 

@@ -1,5 +1,5 @@
 -- The entries of a text as rows, kept until the last line has been judged.
-use Rattle.std.specs.Prelude.{ℕ, ◌≤◌, List, map, ◌≡◌, pos, length, take}
+use Rattle.std.specs.Prelude.{◌≤◌, List, map, ◌≡◌, pos, length, take}
 use Rattle.meaning.specs.Limits.{base}
 use Rattle.meaning.specs.Files.{Reading, refused, read, most_rows}
 use Rattle.meaning.specs.declared.Entry.{Entry}

@@ -4,16 +4,10 @@
 ghost use Rattle.std.specs.Prelude.{◌≡◌, ◌≤◌, cond, length, nat_abs, Err};
 ghost use Rattle.meaning.specs.Limits.{base, fine};
 ghost use Rattle.meaning.specs.Text.{lines};
-ghost use Rattle.meaning.specs.Files.{
-    within as is_within, is_coordinate, most_rows, agrees as is_agreed, counts_fault, entry_fault,
-    node_of, awaiting, read_from, handed_in, reading, answered
-};
+ghost use Rattle.meaning.specs.Files.{within as is_within, is_coordinate, most_rows, agrees as is_agreed, counts_fault, entry_fault, node_of, awaiting, read_from, handed_in, reading, answered};
 ghost use Rattle.reading.specs.Said.{said_at};
 ghost use Rattle.reading.specs.Rows.{Wide, row_of, RowsRead};
-ghost use Rattle.reading.specs.Follows.{
-    only_once, too_many, data_fault, Small, Ready, Starts, Finishes, Answers, AnswersProblem,
-    AnswersNext
-};
+ghost use Rattle.reading.specs.Follows.{only_once, too_many, data_fault, Small, Ready, Starts, Finishes, Answers, AnswersProblem, AnswersNext};
 
 pub use marks::Marks;
 use meaning::{Counts, Entry, Fault, Kind, Limits, Line, Refusal, Rules};
@@ -93,7 +87,7 @@ fn agrees(kind: Kind, given: usize, n: usize) -> bool
     }
 }
 
-// Of a problem line: 4, then 9.
+// Of a problem line: its counts, then the room for its data.
 fn counts_fault(rules: Rules, c: Counts) -> Result<(), Fault>
     ensures { result ≡ counts_fault rules c }
 {
@@ -121,10 +115,11 @@ fn point_fault(limits: Limits, n: usize, node: usize, x: i32, y: i32) -> Result<
     ensures { result ≡ entry_fault limits n (Entry.Point node x y) }
 {
     test(within(1, node, n), Fault::NodeOutside)?;
-    test(is_coordinate(limits, x) && is_coordinate(limits, y), Fault::ValueOutside)
+    let inside = is_coordinate(limits, x) && is_coordinate(limits, y);
+    test(inside, Fault::ValueOutside)
 }
 
-// Of a data line: 5, then 6.
+// Of a data line: its nodes, then its values.
 fn entry_fault(limits: Limits, n: usize, e: Entry) -> Result<(), Fault>
     ensures { result ≡ entry_fault limits n e }
 {
@@ -141,7 +136,7 @@ fn too_many(rows: usize, count: usize) -> Result<(), Fault>
     test(count < rows, Fault::DataMiscounted)
 }
 
-// Of a data line behind the problem line: 7, then 5 and 6.
+// Of a data line behind the problem line: one too many, then what is wrong with the entry.
 fn data_fault(limits: Limits, c: Counts, count: usize, e: Entry) -> Result<(), Fault>
     ensures { result ≡ data_fault limits c count e }
 {
@@ -289,7 +284,7 @@ impl Reader {
         self.advance(rows, said.line)
     }
 
-    // At the end of the text: 3, then 7.
+    // At the end of the text: no problem line, then too few data lines.
     fn finish(&self) -> Result<Counts, Refusal>
         ensures { Finishes self.now result }
     {
@@ -313,12 +308,14 @@ fn judge(rules: Rules, text: &[u8], rows: &mut [Row]) -> Result<Counts, Refusal>
     let mut place = 0;
     while reader.at < text.len() {
         place += 1;
-        reader.next_line(text, rows).map_err(|fault| fault.at(place))?;
+        reader
+            .next_line(text, rows)
+            .map_err(|fault| fault.at(place))?;
     }
     reader.finish()
 }
 
-// The answer of a reader: 1, then a handed-in N 4, then the lines.
+// The answer of a reader: the text's size, then a handed-in N, then the lines.
 pub fn judged(
     kind: Kind,
     given: usize,
@@ -327,12 +324,8 @@ pub fn judged(
     rows: &mut [Row],
 ) -> Result<Counts, Refusal>
     requires { Wide kind rows.old }
-    ensures rows_read {
-        RowsRead (reading (record { limits = base; kind = kind; given = given; room = room }) text.now) rows.new
-    }
-    ensures value {
-        result ≡ answered (reading (record { limits = base; kind = kind; given = given; room = room }) text.now)
-    }
+    ensures rows_read { RowsRead (reading (record { limits = base; kind = kind; given = given; room = room }) text.now) rows.new }
+    ensures value { result ≡ answered (reading (record { limits = base; kind = kind; given = given; room = room }) text.now) }
 {
     let limits = meaning::base();
     if limits.text < text.len() {

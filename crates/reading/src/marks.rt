@@ -6,6 +6,7 @@ use meaning::NODES_MOST;
 use std::marker::Model;
 
 const WORD: usize = 32;
+
 const WORDS: usize = NODES_MOST / WORD;
 
 #[derive(Drop)]

@@ -15,7 +15,8 @@ tail_all xs a = take_all (length xs - a) (drop a xs) (omega (arith, length-drop 
 abbrev pub cut : List ℕ → List (List ℕ)
 cut xs = take (run in_line xs) xs ∷ lines (drop (suc (run in_line xs)) xs)
 
-line_by : (b : ℕ) (bs : List ℕ) (t : Bool) → eqb b 10 ≡ t → (lines bs ≡ cond (ltb 0 (length bs)) (cut bs) []) → lines (b ∷ bs) ≡ cut (b ∷ bs)
+line_by : (b : ℕ) (bs : List ℕ) (t : Bool) → eqb b 10 ≡ t
+    → (lines bs ≡ cond (ltb 0 (length bs)) (cut bs) []) → lines (b ∷ bs) ≡ cut (b ∷ bs)
 line_by b bs true e h = rw e
 line_by b [] false e h = rw e
 line_by b (c ∷ cs) false e h =
@@ -35,13 +36,16 @@ line_inside text at h = omega (arith, prefix_len-le-length in_line (drop at text
 
 -- and it is the first of the lines from there on
 pub lines_at : (text : List ℕ) (at : ℕ) → at < length text
-    → lines (drop at text) ≡ take (run in_line (drop at text)) (drop at text) ∷ lines (drop (at + run in_line (drop at text) + 1) text)
+    → lines (drop at text)
+    ≡ take (run in_line (drop at text)) (drop at text)
+    ∷ lines (drop (at + run in_line (drop at text) + 1) text)
 lines_at text at h =
     let len : ℕ = run in_line (drop at text) in
     let same_place : at + suc len ≡ at + len + 1 = omega arith in
     let rest : drop (suc len) (drop at text) ≡ drop (at + len + 1) text
     = drop-drop (suc len) at text ∙ ap (λ (k : ℕ). drop k text) same_place in
-    lines_cut (drop at text) (omega (arith, length-drop at text)) ∙ ap (λ (r : List ℕ). take len (drop at text) ∷ lines r) rest
+    lines_cut (drop at text) (omega (arith, length-drop at text))
+    ∙ ap (λ (r : List ℕ). take len (drop at text) ∷ lines r) rest
 
 -- a line whose last byte is no CR
 pub trim_other : (l : List ℕ) → (get_or l (length l - 1) 0 ≡ 13 → ⊥) → l ≡ trim l

@@ -8,7 +8,11 @@ use Rattle.text.specs.declared.Piece.{Piece}
 abbrev pub piece_at : List ℕ → ℕ → Option Piece
 piece_at text at =
     cond (ltb at (length text))
-    (Some (record { start = at; len = run in_line (drop at text); next = at + run in_line (drop at text) + 1 }))
+    (Some (record {
+      start = at;
+      len = run in_line (drop at text);
+      next = at + run in_line (drop at text) + 1;
+    }))
     None
 
 -- where the next line starts; at the end a reader stays where it stands
@@ -23,4 +27,5 @@ moved_to r at = record { text = r.text; at = at }
 -- a reader gives the line at its position, and goes on past it
 abbrev pub GivesLine : Lines → Option Piece → Lines → Type 0
 GivesLine before piece after =
-    (piece ≡ piece_at before.text.now before.at) × (after ≡ moved_to before (past_of piece before.at))
+    (piece ≡ piece_at before.text.now before.at)
+    × (after ≡ moved_to before (past_of piece before.at))

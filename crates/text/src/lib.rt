@@ -106,8 +106,8 @@ fn inks(rest: &[u8]) -> usize
     rest.iter().take_while(|&&b| !is_blank(b)).count()
 }
 
-// The next field of the rest of a line, and what follows it.
-fn parted(rest: &[u8]) -> (&[u8], &[u8])
+// The next field of the rest of a line, empty where there is none, and what follows it.
+pub fn split_word(rest: &[u8]) -> (&[u8], &[u8])
     ensures word { result.0.now ≡ first (fields rest.now) }
     ensures after { fields result.1.now ≡ others (fields rest.now) }
 {
@@ -115,18 +115,18 @@ fn parted(rest: &[u8]) -> (&[u8], &[u8])
     lead.split_at(inks(lead))
 }
 
-// The next field of the rest of a line, empty where there is none.
+// The next field.
 pub fn word(rest: &[u8]) -> &[u8]
     ensures { result.now ≡ first (fields rest.now) }
 {
-    parted(rest).0
+    split_word(rest).0
 }
 
 // What follows the next field: the rest that the next field's parser is handed.
 pub fn after(rest: &[u8]) -> &[u8]
     ensures { fields result.now ≡ others (fields rest.now) }
 {
-    parted(rest).1
+    split_word(rest).1
 }
 
 // Whether no field is left.

@@ -1,5 +1,4 @@
-use Rattle.std.proofs.Common.{rules, arith}
-use Rattle.std.proofs.lemmas.Grind.{common_steps}
+use Rattle.std.proofs.Common.{rules}
 use Rattle.meaning.specs.Limits.{and_then}
 use Rattle.reading.proofs.data_fault.Goals as goal
 

@@ -9,4 +9,6 @@ use Rattle.text.proofs.ended.Goals as goal
 pub returns : goal.returns
 returns c =
     rw (sym (blank_none c.args.rest.now))
-    (all_from_yields_List is_blank _ _ _ c.all.ensures.ran (YieldsList-from_slice c.args.rest.now cc) (λ x b q k. search (rules, tests)))
+    (all_from_yields_List is_blank _ _ _ c.all.ensures.ran
+    (YieldsList-from_slice c.args.rest.now cc)
+    (λ x b q k. search (rules, tests)))

@@ -2,4 +2,6 @@ use Rattle.grammar.proofs.Lines.{arc_said}
 use Rattle.grammar.proofs.plain.arc_at.Goals as goal
 
 pub returns : goal.returns
-returns c = arc_said c.in_ok-from.ensures c.in_ok-tail.ensures.said c.in_ok-head.ensures.said c.in_ok-weight.ensures.said
+returns c =
+    arc_said c.in_ok-from.ensures
+    c.in_ok-tail.ensures.said c.in_ok-head.ensures.said c.in_ok-weight.ensures.said

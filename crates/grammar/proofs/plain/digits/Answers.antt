@@ -3,7 +3,10 @@ use Rattle.grammar.proofs.Lines.{sofar_more, sofar_ended}
 use Rattle.grammar.proofs.plain.digits.Goals as goal
 
 pub returns-then-ends : goal.returns-then-ends
-returns-then-ends c = sofar_ended c.loop-i.invariant (omega arith) (omega arith) c.if-byte-end.false c.if-i-at.false
+returns-then-ends c =
+    sofar_ended c.loop-i.invariant (omega arith) (omega arith) c.if-byte-end.false c.if-i-at.false
 
 pub loop-i-preserved : goal.loop-i-preserved
-loop-i-preserved c = sofar_more c.loop-i.invariant (omega arith) c.from.result (omega (arith, c.from.ensures)) (omega (arith, c.from.ensures))
+loop-i-preserved c =
+    sofar_more c.loop-i.invariant (omega arith) c.from.result
+    (omega (arith, c.from.ensures)) (omega (arith, c.from.ensures))

@@ -7,4 +7,6 @@ pub returns : goal.returns
 returns c =
     let x : SFits w32 c.in_ok-x.x.value = search rules in
     let y : SFits w32 c.in_ok-y.y.value = search rules in
-    simp to_z-of_z (point_said c.in_ok-from.ensures c.in_ok-node.ensures.said c.in_ok-x.ensures.said c.in_ok-y.ensures.said)
+    simp to_z-of_z
+    (point_said c.in_ok-from.ensures c.in_ok-node.ensures.said
+    c.in_ok-x.ensures.said c.in_ok-y.ensures.said)

@@ -8,7 +8,6 @@ use Rattle.reading.proofs.Reader.add.Goals as goal
 use Rattle.reading.proofs.Reader.add.Goals.{After-node_of-k}
 use Prim.Native.Nat.{◌-◌}
 
-
 -- behind the test for a fault: the entry has none, so that there is room for it
 fit : (c : After-node_of-k) → Fitting c.args.e c.args.self.now.count c.args.rows.now
 fit c =

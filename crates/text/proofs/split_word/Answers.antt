@@ -3,7 +3,7 @@ use Rattle.std.proofs.lemmas.List.Sums.{prefix_len-le-length}
 use Rattle.meaning.specs.Text.{is_blank}
 use Rattle.text.specs.Scan.{is_ink}
 use Rattle.text.proofs.Laws.{parted, tail_all}
-use Rattle.text.proofs.parted.Goals as goal
+use Rattle.text.proofs.split_word.Goals as goal
 
 pub slice_bounds-lead-count : goal.slice_bounds-lead-count
 slice_bounds-lead-count c = omega (arith, c.blanks.ensures, prefix_len-le-length is_blank c.args.rest.now)
