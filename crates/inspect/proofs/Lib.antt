@@ -1,8 +1,7 @@
--- what others cite
-pub mod Laws
--- the first faulty entry, each kind of entry, and the order of the checks
+-- the first faulty entry
 mod Faults
-mod Single
-mod Order
--- the sites by one bit per node
+-- the points
+mod Placed
+-- the sites before one, and the sites by one bit per node
+mod Sites
 mod Marked

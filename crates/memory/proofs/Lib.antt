@@ -4,10 +4,8 @@ pub mod Holds
 pub mod Lines
 -- what it holds after a write
 pub mod Writes
--- the quarters, set to 0
-mod Cleared
 -- the sites side by side
-pub mod Aims
+pub mod Columns
 -- the scan of the code: the closest site
 mod Closest
 -- the tree of the open nodes: after writes, settled anew, and who stands at its top

@@ -1,4 +1,5 @@
--- The estimate from the memory is the taking rule's: the least of the roots is the root of the least.
+-- The estimate from the memory is the taking rule's: the least of the roots is the root of the
+-- least.
 use mathlib.Core.Path.{◌≡◌, refl}
 use mathlib.Core.Bool.{Bool, true, false, not, cond}
 use mathlib.Core.List.{List}
@@ -8,7 +9,6 @@ use native.Mathlib.Decide.{dec_lt}
 use native.Mathlib.Omega.{arith}
 use borrow.Author.Tests.{lt-ltb, le-ltb, ltb-true, ltb-false}
 use lib.Dec.{eqb, eqb_refl, eqb-suc-zero, ltb}
-use lib.ListN.{get_or}
 use Rattle.meaning.specs.Region.{Tables, Region, region_of, is_site, x_at, y_at}
 use Rattle.meaning.specs.Scan.{better, first}
 use Rattle.meaning.specs.Straight.{root, root_to, squares, straight}
@@ -18,7 +18,7 @@ use Rattle.meaning.proofs.Bools.{T_true}
 use Rattle.meaning.proofs.Roots.{root_floor, sq_lt_inv}
 use Rattle.meaning.proofs.Scans.{any_of}
 use Rattle.memory.specs.Memory.{Holds, is_taken}
-use Rattle.memory.specs.Aim.{Ground, closer_of, least_to, line_to}
+use Rattle.memory.specs.Aim.{Ground, node_of, closer_of, least_to, line_to}
 use Rattle.memory.proofs.Holds.{taken_is}
 
 root_mono : (a b : ℕ) → a ≤ b → root a ≤ root b
@@ -28,13 +28,15 @@ root_mono a b l =
     let s = sq_lt_inv (root a) (suc (root b)) (omega arith) in
     omega arith
 
--- b is 0 where no site has been found, and else one more than a square whose root is the key of the one found
+-- b is 0 where no site has been found, and else one more than a square whose root is the key of the
+-- one found
 abbrev Beside : (ℕ → ℕ) → Option ℕ → ℕ → Type 0
 Beside f none b = b ≡ 0
 Beside f (some i) b = (c : ℕ) × (b ≡ suc c) × (root c ≡ f i)
 
 module _ (f : ℕ → ℕ) (j q : ℕ) (e : f j ≡ root q) where
-  -- where the square q of j is less than c, its root may still be the same: then i stays, with the same root
+  -- where the square q of j is less than c, its root may still be the same: then i stays, with the
+  -- same root
   nearer : (i c : ℕ) → root c ≡ f i → Beside f (cond (ltb (f j) (f i)) (some j) (some i)) (cond (ltb (suc q) (suc c)) (suc q) (suc c))
   nearer i c r = go (dec_lt q c) (ltb (f j) (f i)) refl
     where
@@ -58,19 +60,16 @@ site_aimed : (R : Region) (s : State) (j : ℕ) → j < R.s → aimed R s (R.sit
 unfolding aimed is_site
 site_aimed R s j l = rw (T_true (is_site R (R.site j)) (any_of (λ i. eqb (R.site i) (R.site j)) R.s j l (eqb_refl (R.site j))))
 
-module _ (t : Tables) {line : ℕ → ℕ} {s : State} {from rest w : List ℕ} (G : Ground t.xs t.ys t.sites t.n t.s)
+module _ (t : Tables) {line : ℕ → ℕ} {s : State} {from rest w : List ℕ} (G : Ground t)
     (H : Holds t.n (is_site (region_of t)) line s from rest w) (v : ℕ) where
-  abbrev node : ℕ → ℕ
-  node j = get_or t.sites j 0 - 1
-
   abbrev line_of : ℕ → ℕ
-  line_of j = straight (x_at t) (y_at t) v (node j)
+  line_of j = straight (x_at t) (y_at t) v (node_of t j)
 
   abbrev closest : ℕ → Option ℕ
-  closest j = first (λ i. aimed (region_of t) s (node i)) line_of j
+  closest j = first (λ i. aimed (region_of t) s (node_of t i)) line_of j
 
   abbrev least : ℕ → ℕ
-  least j = least_to t.xs t.ys t.sites t.n w v j
+  least j = least_to t w v j
 
   found : (j : ℕ) → j ≤ t.s → Beside line_of (closest j) (least j)
   unfolding first least_to straight
@@ -78,10 +77,10 @@ module _ (t : Tables) {line : ℕ → ℕ} {s : State} {from rest w : List ℕ} 
   found (suc j) l =
       let a = G.low j (omega arith) in
       let b = G.high j (omega arith) in
-      rw (site_aimed (region_of t) s j (omega arith), ← (taken_is H (node j) (omega arith)))
-      (beside_next line_of j (squares (x_at t) (y_at t) v (node j)) refl (is_taken t.n w (node j)) (closest j) (least j) (found j (omega arith)))
+      rw (site_aimed (region_of t) s j (omega arith), ← (taken_is H (node_of t j) (omega arith)))
+      (beside_next line_of j (squares (x_at t) (y_at t) v (node_of t j)) refl (is_taken t.n w (node_of t j)) (closest j) (least j) (found j (omega arith)))
 
-  pub line_is : line_to t.xs t.ys t.sites t.n t.s w v ≡ aim_of t (aimed (region_of t) s) v
+  pub line_is : line_to t w v ≡ aim_of t (aimed (region_of t) s) v
   unfolding line_to to_sites least_at root root_to
   line_is = go (closest t.s) (least t.s) (found t.s (omega arith))
     where

@@ -1,11 +1,16 @@
 -- The tree after writes of a node's entries in the memory.
 use mathlib.Core.List.{List}
 use mathlib.Core.Path.{◌≡◌, refl, ◌∙◌}
-use Prim.Native.Nat.{ℕ, ◌+◌, ◌*◌, ◌<◌}
+use Prim.Native.Nat.{ℕ, ◌+◌, ◌*◌, ◌≤◌, ◌<◌}
 use native.Mathlib.Omega.{arith}
-use lib.ListN.{get_or, set}
+use lib.ListN.{get_or, set, replicate, get_or-replicate}
 use lib.Seq.{get_or-set_other}
+use Rattle.meaning.specs.Limits.{base}
 use Rattle.memory.specs.Tree.{Tree, But, Bare, SameKeys, Elsewhere}
+
+-- at first
+pub bare_all : (n : ℕ) → n ≤ 1024 → Bare n (replicate (2 * base.nodes) 0)
+bare_all n l = record { room = omega arith; none = λ j h. get_or-replicate (2 * base.nodes) j 0 0 (omega arith) }
 
 pub tree_same : {n : ℕ} {w w' t : List ℕ} → Tree n w t → SameKeys n w w' → Tree n w' t
 tree_same T S = record {

@@ -3,6 +3,7 @@ use mathlib.Core.Bool.{Bool, true, false, cond}
 use mathlib.Core.List.{List}
 use mathlib.Core.Logic.{◌⊎◌, inl, inr, ⊎_elim}
 use mathlib.Core.Option.{Option, none, some}
+use Rattle.std.specs.Prelude.{Some, None}
 use mathlib.Core.Path.{◌≡◌, refl, sym, ap, ◌∙◌}
 use Prim.Native.Nat.{ℕ, zero, suc, ◌+◌, ◌-◌, ◌*◌, ◌/◌, ◌%◌, ◌≤◌, ◌<◌, max}
 use native.Mathlib.Decide.{dec_lt, ℕ_discrete}
@@ -13,7 +14,6 @@ use Rattle.meaning.specs.Scan.{first}
 use Rattle.meaning.proofs.Bools.{T_true, true_T}
 use Rattle.meaning.proofs.Scans.{IsFirst, first_is}
 use Rattle.memory.specs.Memory.{key_at, next_of}
-use Rattle.memory.specs.declared.Next.TheVariants.{Node, Nothing}
 use Rattle.memory.specs.Tree.{open_at, rank_of, Tree}
 
 max_either : (a b : ℕ) → (max a b ≡ a) ⊎ (max a b ≡ b)
@@ -87,20 +87,20 @@ module _ {n : ℕ} {w t : List ℕ} (I : Tree n w t) where
     top_least : (v : ℕ) → v < n → T (open_at n w v) → rank (key_at n w v) v ≤ get_or t 1 0
     top_least v h o = let c = climb (n + v) (n + v) (omega arith) (omega arith) (omega arith) in let e = I.leaves v h ∙ rank_open v o in omega arith
 
-    pub top_none : get_or t 1 0 ≡ 0 → Nothing ≡ next_of (first (open_at n w) (key_at n w) n)
+    pub top_none : get_or t 1 0 ≡ 0 → None ≡ next_of (first (open_at n w) (key_at n w) n)
     top_none z = go (first (open_at n w) (key_at n w) n) (first_is (open_at n w) (key_at n w) n)
       where
-        go : (o : Option ℕ) → IsFirst (open_at n w) (key_at n w) n o → Nothing ≡ next_of o
+        go : (o : Option ℕ) → IsFirst (open_at n w) (key_at n w) n o → None ≡ next_of o
         go none h = refl
         go (some v) h =
             let k = I.near v h.below h.holds in
             let c = top_least v h.below h.holds in
             absurd (omega arith)
 
-    pub top_node : (get_or t 1 0 ≡ 0 → ⊥) → Node (65535 - get_or t 1 0 % 65536) ≡ next_of (first (open_at n w) (key_at n w) n)
+    pub top_node : (get_or t 1 0 ≡ 0 → ⊥) → Some (65535 - get_or t 1 0 % 65536) ≡ next_of (first (open_at n w) (key_at n w) n)
     top_node z = go (from_leaf (n + n) 1 (omega arith) (omega arith) (omega arith)) (first (open_at n w) (key_at n w) n) (first_is (open_at n w) (key_at n w) n)
       where
-        go : Leaf 1 → (o : Option ℕ) → IsFirst (open_at n w) (key_at n w) n o → Node (65535 - get_or t 1 0 % 65536) ≡ next_of o
+        go : Leaf 1 → (o : Option ℕ) → IsFirst (open_at n w) (key_at n w) n o → Some (65535 - get_or t 1 0 % 65536) ≡ next_of o
         go (x, p, e) none h = absurd (h x p (above_none x (omega arith)))
         go (x, p, e) (some v) h =
             let b = h.below in
@@ -108,4 +108,4 @@ module _ {n : ℕ} {w t : List ℕ} (I : Tree n w t) where
             let r = e ∙ rank_open x o in
             let c : rank (key_at n w v) v ≤ rank (key_at n w x) x = rw r at (top_least v b h.holds) in
             let i = rank_first _ v _ x (I.near v b h.holds) (omega arith) (omega arith) (h.least x p o) (h.lower x p o) c in
-            ap Node (rw r (rank_number (key_at n w x) x (omega arith)) ∙ i)
+            ap Some (rw r (rank_number (key_at n w x) x (omega arith)) ∙ i)

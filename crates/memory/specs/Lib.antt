@@ -2,5 +2,7 @@
 pub mod Memory
 -- the estimate, from it
 pub mod Aim
+-- the region that a search is over
+pub mod Region
 -- the tree of the open nodes
 pub mod Tree

@@ -1,13 +1,14 @@
--- The work memory of a search, in four quarters of n entries. Of node v: entry v is one more than its best length so far, and 0 while it has not been seen;
--- entry n + v is what it is compared by beside its length while it is open, and 0 while it isn't; entry n + n + v is the number of the node before it on the
--- route, and 0 where there is none. The last quarter isn't used. The open nodes stand in a tree beside the memory (Tree).
-use Rattle.std.specs.Prelude.{Bool, not, cond, ◌&&◌, List, ◌≡◌, ℕ, suc, ◌+◌, ◌-◌, ◌*◌, ◌/◌, ◌%◌, ◌≤◌, ◌<◌, T, eqb, length, get_or, drop}
-use Rattle.std.proofs.Math.Option.{Option, none, some}
+-- The work memory of a search, in four quarters of n entries. Of node v: entry v is one more than
+-- its best length so far, and 0 while it has not been seen; entry n + v is what it is compared by
+-- beside its length while it is open, and 0 while it isn't; entry n + n + v is the number of the
+-- node before it on the route, and 0 where there is none. The last quarter isn't used. The open
+-- nodes stand in a tree beside the memory (Tree).
+use Rattle.std.specs.Prelude.{Option, Some, None, Bool, not, cond, ◌&&◌, List, ◌≡◌, ℕ, suc, ◌+◌, ◌-◌, ◌*◌, ◌/◌, ◌%◌, ◌≤◌, ◌<◌, T, eqb, length, get_or, drop}
+use Rattle.std.proofs.Math.Option.{Option as Found, none, some}
 use Rattle.meaning.specs.Taking.{State, taken, is_open, total, bit}
-use Rattle.memory.specs.declared.Next.{Next}
-use Rattle.memory.specs.declared.Next.TheVariants.{Node, Nothing}
 
--- what is held of an open node: its estimate, and whether it is a site, which goes after an equal total that isn't one
+-- what is held of an open node: its estimate, and whether it is a site, which goes after an equal
+-- total that isn't one
 abbrev pub rival_of : ℕ → Bool → ℕ
 rival_of line site = suc (line * 2 + bit site)
 
@@ -19,12 +20,14 @@ is_taken n w v = not (eqb (get_or w v 0) 0) && eqb (get_or w (n + v) 0) 0
 abbrev pub key_at : ℕ → List ℕ → ℕ → ℕ
 key_at n w v = total (get_or w v 0 - 1) ((get_or w (n + v) 0 - 1) / 2) * 2 + (get_or w (n + v) 0 - 1) % 2
 
-abbrev pub next_of : Option ℕ → Next
-next_of none = Nothing
-next_of (some v) = Node v
+-- the node that a scan finds, as the code has it
+abbrev pub next_of : Found ℕ → Option ℕ
+next_of none = None
+next_of (some v) = Some v
 
--- The memory w holds the state s of a search, where `site` tells the sites, `line` is the estimate last made of each open node, `from` has the number of the node
--- before each node, and `rest` is what follows the four quarters.
+-- The memory w holds the state s of a search, where `site` tells the sites, `line` is the estimate
+-- last made of each open node, `from` has the number of the node before each node, and `rest` is
+-- what follows the four quarters.
 pub record Holds (n : ℕ) (site : ℕ → Bool) (line : ℕ → ℕ) (s : State) (from rest w : List ℕ) : Type 0 where
   pub room : 4 * n ≤ length w
   pub size : length s.best ≡ n

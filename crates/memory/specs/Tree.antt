@@ -1,9 +1,9 @@
--- The open nodes in a winner tree over n leaves, in a list of its own. Place n + v is the leaf of node v, and place j, from 1 to n - 1, has the larger of what
--- stands at places 2j and 2j + 1. At a leaf stands the more the sooner its node goes, and 0 where the node isn't open.
-use Rattle.std.specs.Prelude.{Bool, not, cond, List, ◌≡◌, ℕ, ◌+◌, ◌-◌, ◌*◌, ◌≤◌, ◌<◌, max, T, eqb, length, get_or}
+-- The open nodes in a winner tree over n leaves, in a list of its own. Place n + v is the leaf of
+-- node v, and place j, from 1 to n - 1, has the larger of what stands at places 2j and 2j + 1. At a
+-- leaf stands the more the sooner its node goes, and 0 where the node isn't open.
+use Rattle.std.specs.Prelude.{Option, Bool, not, cond, List, ◌≡◌, ℕ, ◌+◌, ◌-◌, ◌*◌, ◌≤◌, ◌<◌, max, T, eqb, length, get_or}
 use Rattle.meaning.specs.Scan.{first}
 use Rattle.memory.specs.Memory.{key_at, next_of}
-use Rattle.memory.specs.declared.Next.{Next}
 
 -- whether node v is open: only open nodes compete
 abbrev pub open_at : ℕ → List ℕ → ℕ → Bool
@@ -37,7 +37,7 @@ pub record Bare (n : ℕ) (t : List ℕ) : Type 0 where
   pub none : (j : ℕ) → j < n + n → get_or t j 0 ≡ 0
 
 -- r is the open node that goes next in whatever memory the tree is of
-abbrev pub Topped : ℕ → List ℕ → Next → Type 0
+abbrev pub Topped : ℕ → List ℕ → Option ℕ → Type 0
 Topped n t r = (w : List ℕ) → Tree n w t → r ≡ next_of (first (open_at n w) (key_at n w) n)
 
 -- what nodes are compared by is the same in w' as in w

@@ -1,118 +1,97 @@
 // The estimate of a node: the least straight line to a site that isn't taken.
-ghost use Rattle.std.specs.Prelude.{◌≡◌, false, ℕ, ◌-◌, ◌*◌, ◌≤◌, ◌<◌, pos, length, get_or};
+ghost use Rattle.std.specs.Prelude.{◌≡◌, false, List, ℕ, ◌*◌, ◌≤◌, ◌<◌, pos, length, get_or};
+ghost use Rattle.meaning.specs.Region.{tables_of};
 ghost use Rattle.memory.specs.Memory.{rival_of, is_taken};
-ghost use Rattle.memory.specs.Aim.{Ground, site_in, line_to, Aims, NoneTaken, Numbered, Forgotten, Sized, nearer};
+ghost use Rattle.memory.specs.Aim.{site_in, line_to, SideBySide, NoneTaken, Forgotten, Sized, nearer};
 
+use crate::Region;
+use meaning::SITES_MOST;
 use straight::Line;
 
-// Farther off than any node is, and one more than the square of any distance between nodes.
+// Where a taken site is put: farther off than any node is.
 const FAR: i32 = 1000000000;
 
+// One more than the square of any distance between nodes.
 const BEYOND: u64 = 320000000000000001;
 
-// The sites' coordinates side by side.
-pub fn gather(
-    xs: &[i32],
-    ys: &[i32],
-    sites: &[u16],
-    work: &[u32],
-    n: usize,
-    s: usize,
-    ax: &mut [i32],
-    ay: &mut [i32],
-)
-    requires s_in_bounds { (s ≤ length ax.old) × (s ≤ length ay.old) }
-    requires ground { Ground xs.now ys.now sites.now n s }
-    requires none_taken { NoneTaken n work.now }
-    ensures { Aims xs.now ys.now sites.now n s work.now ax.new ay.new }
-{
-    let mut j = 0;
-    while j < s {
-        let number = sites[j] as usize;
-        let node = number - 1;
-        ax[j] = xs[node];
-        ay[j] = ys[node];
-        j += 1;
-    }
+// The sites' coordinates side by side; a taken site is put far off.
+#[derive(Drop)]
+pub struct Aims {
+    pub xs: [i32; SITES_MOST],
+    pub ys: [i32; SITES_MOST],
 }
 
-// A site that was taken is put farther off than any node is.
-pub fn forget(sites: &[u16], s: usize, v: usize, site: bool, ax: &mut [i32])
-    requires s_in_bounds { (s ≤ length sites.now) × (s ≤ length ax.old) }
-    requires numbered { Numbered sites.now s }
-    ensures { Forgotten sites.now s v site ax.old ax.new }
-{
-    if !site {
-        return;
-    }
-    let mut j = 0;
-    while j < s {
-        let number = sites[j] as usize;
-        let node = number - 1;
-        if node == v {
-            ax[j] = FAR;
+impl Aims {
+    // While no node is taken, each site stands where it is.
+    pub fn gather(r: &Region) -> Aims
+        ensures { (w : List ℕ) → NoneTaken r.now.tables.n w
+            → SideBySide (tables_of r.now.tables) w result.xs result.ys }
+    {
+        let t = r.tables;
+        let mut aims = Aims {
+            xs: [0; SITES_MOST],
+            ys: [0; SITES_MOST],
+        };
+        for j in 0..t.s {
+            let node = t.sites[j] as usize - 1;
+            aims.xs[j] = t.xs[node];
+            aims.ys[j] = t.ys[node];
         }
-        j += 1;
+        aims
+    }
+
+    // The site v, which was taken, is put farther off than any node is.
+    pub fn forget(&mut self, r: &Region, v: usize)
+        ensures across { Forgotten (tables_of r.now.tables) v self.old.xs self.new.xs }
+        ensures upward { self.new.ys ≡ self.old.ys }
+    {
+        let t = r.tables;
+        for j in 0..t.s {
+            let node = t.sites[j] as usize - 1;
+            if node == v {
+                self.xs[j] = FAR;
+            }
+        }
+    }
+
+    // One root, of the least square; 0 where no site is left.
+    fn line_from(&self, r: &Region, work: &[u32], v: usize) -> Line
+        requires v_in_bounds { v < r.now.tables.n }
+        requires aims { SideBySide (tables_of r.now.tables) work.now self.now.xs self.now.ys }
+        ensures { (result.0 ≡ line_to (tables_of r.now.tables) work.now v)
+            × (result.0 ≤ 1000000000) }
+    {
+        let t = r.tables;
+        let x = t.xs[v];
+        let y = t.ys[v];
+        let mut best = BEYOND;
+        for j in 0..t.s {
+            best = closer(x, y, self.xs[j], self.ys[j], best);
+        }
+        if best == BEYOND {
+            return Line(0);
+        }
+        Line(straight::root(best) as u32)
     }
 }
 
-// The least square so far, with one more site.
-fn closer(x: i32, y: i32, ax: &[i32], ay: &[i32], j: usize, best: u64) -> u64
-    requires j_in_bounds { (j < length ax.now) × (j < length ay.now) }
-    requires sized { Sized x y (get_or ax.now j (pos 0)) (get_or ay.now j (pos 0)) }
-    ensures { result ≡ nearer x y (get_or ax.now j (pos 0)) (get_or ay.now j (pos 0)) best }
+// The least square so far, with that to one more site.
+fn closer(x: i32, y: i32, a: i32, b: i32, best: u64) -> u64
+    requires { Sized x y a b }
+    ensures { result ≡ nearer x y a b best }
 {
-    let square = straight::apart(x, ax[j]) + straight::apart(y, ay[j]);
+    let square = straight::apart(x, a) + straight::apart(y, b);
     if square < best { square } else { best }
 }
 
-// One root, of the least square; 0 where no site is left.
-pub fn line_from(
-    xs: &[i32],
-    ys: &[i32],
-    sites: &[u16],
-    work: &[u32],
-    n: usize,
-    s: usize,
-    ax: &[i32],
-    ay: &[i32],
-    v: usize,
-) -> Line
-    requires n_in_bounds { (4 * n ≤ length work.now) × (v < n) }
-    requires ground { Ground xs.now ys.now sites.now n s }
-    requires aims { Aims xs.now ys.now sites.now n s work.now ax.now ay.now }
-    ensures { (result.0 ≡ line_to xs.now ys.now sites.now n s work.now v) × (result.0 ≤ 1000000000) }
-{
-    let x = xs[v];
-    let y = ys[v];
-    let mut best: u64 = BEYOND;
-    let mut j = 0;
-    while j < s {
-        best = closer(x, y, ax, ay, j, best);
-        j += 1;
-    }
-    if best == BEYOND {
-        return Line(0);
-    }
-    let line = straight::root(best);
-    Line(line as u32)
-}
-
 // Whether node v is a site.
-fn is_site(sites: &[u16], s: usize, v: usize) -> bool
-    requires { (s ≤ length sites.now) × ((j : ℕ) → j < s → 1 ≤ get_or sites.now j 0) }
-    ensures { result ≡ site_in sites.now s v }
+fn is_site(r: &Region, v: usize) -> bool
+    requires { v < r.now.tables.n }
+    ensures { result ≡ site_in (tables_of r.now.tables) v }
 {
-    let mut j = 0;
-    while j < s {
-        let number = sites[j] as usize;
-        let node = number - 1;
-        if node == v {
-            return true;
-        }
-        j += 1;
-    }
-    false
+    let t = r.tables;
+    let number = v as u16 + 1;
+    t.sites[..t.s].contains(&number)
 }
 
 fn rival(line: Line, site: bool) -> u32
@@ -120,34 +99,20 @@ fn rival(line: Line, site: bool) -> u32
     ensures { result ≡ rival_of line.0 site }
 {
     let twice = line.0 * 2;
-    if site {
-        return twice + 2;
-    }
-    twice + 1
+    if site { twice + 2 } else { twice + 1 }
 }
 
-// What is held of node v while it is open. A site that isn't taken is at no distance from itself, so only a node at distance 0 is looked for among the sites.
-pub fn aim(
-    xs: &[i32],
-    ys: &[i32],
-    sites: &[u16],
-    work: &[u32],
-    n: usize,
-    s: usize,
-    ax: &[i32],
-    ay: &[i32],
-    v: usize,
-) -> u32
-    requires n_in_bounds { (4 * n ≤ length work.now) × ((v < n) × (is_taken n work.now v ≡ false)) }
-    requires ground { Ground xs.now ys.now sites.now n s }
-    requires aims { Aims xs.now ys.now sites.now n s work.now ax.now ay.now }
-    ensures { result ≡ rival_of (line_to xs.now ys.now sites.now n s work.now v) (site_in sites.now s v) }
+// What is held of node v while it is open. A site that isn't taken is at no distance from itself,
+// so only a node at distance 0 is looked for among the sites. Of the memory only the contract
+// speaks.
+pub fn aim(r: &Region, work: &[u32], aims: &Aims, v: usize) -> u32
+    requires n_in_bounds { (4 * r.now.tables.n ≤ length work.now) × (v < r.now.tables.n) }
+    requires untaken { is_taken r.now.tables.n work.now v ≡ false }
+    requires aims { SideBySide (tables_of r.now.tables) work.now aims.now.xs aims.now.ys }
+    ensures { result ≡ rival_of (line_to (tables_of r.now.tables) work.now v)
+        (site_in (tables_of r.now.tables) v) }
 {
-    let line = line_from(xs, ys, sites, work, n, s, ax, ay, v);
-    let metres = line.0;
-    if metres != 0 {
-        return rival(line, false);
-    }
-    let site = is_site(sites, s, v);
+    let line = aims.line_from(r, work, v);
+    let site = line.0 == 0 && is_site(r, v);
     rival(line, site)
 }

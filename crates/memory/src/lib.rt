@@ -1,37 +1,30 @@
-// The work memory of a search: what stands where (specs/Memory, specs/Tree), the open node that goes next, and the estimate of a node.
+// The work memory of a search: what stands where (specs/Memory, specs/Tree), the open node that
+// goes next, and the estimate of a node.
+//
+// The memory stays a lent slice, which each function takes beside n: a struct around it would hold
+// a `&mut`, whose ghost name every clause would have to carry.
 #![tactic(auto)]
 
 ghost use Rattle.std.specs.Prelude.{◌≡◌, ◌+◌, ◌-◌, ◌*◌, ◌%◌, ◌≤◌, ◌<◌, eqb, length, get_or, replicate};
 ghost use Rattle.meaning.specs.Search.{over};
 ghost use Rattle.memory.specs.Memory.{is_taken, key_at, SiteTold};
 
-pub use estimate::{aim, forget, gather};
+pub use estimate::{Aims, aim};
+pub use region::Region;
 use straight::{Line, Road};
-pub use tree::{first_open, replay};
+pub use tree::Winners;
 
 mod estimate;
+mod region;
 mod tree;
-
-// The open node to be taken next.
-#[derive(Clone, Copy)]
-pub enum Next {
-    Node(usize),
-    Nothing,
-}
 
 // The four quarters are 0, and what follows them stays.
 pub fn clear(work: &mut [u32], n: usize)
     requires { 4 * n ≤ length work.old }
     ensures { work.new ≡ over (replicate (4 * n) 0) work.old }
 {
-    let mut v = 0;
-    while v < n {
-        work[v] = 0;
-        work[n + v] = 0;
-        work[n + n + v] = 0;
-        work[n + n + n + v] = 0;
-        v += 1;
-    }
+    let quarters = 4 * n;
+    work[..quarters].fill(0);
 }
 
 // Whether node v has been taken.
@@ -39,10 +32,7 @@ pub fn is_taken(work: &[u32], n: usize, v: usize) -> bool
     requires { (4 * n ≤ length work.now) × (v < n) }
     ensures { result ≡ is_taken n work.now v }
 {
-    if work[v] == 0 {
-        return false;
-    }
-    work[n + v] == 0
+    work[v] != 0 && work[n + v] == 0
 }
 
 // The best length so far of node v; 0 for one that has not been seen.
@@ -50,11 +40,7 @@ pub fn road_at(work: &[u32], n: usize, v: usize) -> Road
     requires { (4 * n ≤ length work.now) × (v < n) }
     ensures { result.0 ≡ get_or work.now v 0 - 1 }
 {
-    let len = work[v];
-    if len == 0 {
-        return Road(0);
-    }
-    Road(len - 1)
+    Road(work[v].saturating_sub(1))
 }
 
 // Whether the open node v is a site.

@@ -1,9 +1,17 @@
-// The open nodes in a winner tree (specs/Tree), beside the work memory: the one that goes next stands at its top, and a node whose entries were written is played
-// again on its way there.
-ghost use Rattle.std.specs.Prelude.{◌≡◌, ◌+◌, ◌*◌, ◌≤◌, ◌<◌, max, length};
-ghost use Rattle.memory.specs.Tree.{Tree, But, Ranked, Topped};
+// The open nodes in a winner tree (specs/Tree), beside the work memory: the one that goes next
+// stands at its top, and a node whose entries were written is played again on its way there.
+ghost use Rattle.std.specs.Prelude.{◌≡◌, ℕ, ◌+◌, ◌*◌, ◌≤◌, ◌<◌, length};
+ghost use Rattle.memory.specs.Tree.{Tree, But, Bare, Ranked, Topped};
 
-use crate::{Next, key};
+use crate::key;
+use meaning::NODES_MOST;
+use std::marker::Model;
+
+// No key is as large.
+const KEYS: u64 = 17179869184;
+
+// More than any node's number, by which a rank tells equal keys apart.
+const NUMBERS: u64 = 65536;
 
 // What a node stands in the tree with: the sooner it goes, the more; 0 where it isn't open.
 fn rank(work: &[u32], n: usize, v: usize) -> u64
@@ -13,41 +21,61 @@ fn rank(work: &[u32], n: usize, v: usize) -> u64
     if work[n + v] == 0 {
         return 0;
     }
-    (17179869184 - key(work, n, v)) * 65536 + (65535 - v as u64)
+    (KEYS - key(work, n, v)) * NUMBERS + (NUMBERS - 1 - v as u64)
 }
 
-fn larger(a: u64, b: u64) -> u64
-    ensures { result ≡ max a b }
-{
-    if a < b { b } else { a }
+// The ranks of the open nodes, each at its leaf, and above them the larger of each two.
+#[derive(Drop)]
+pub struct Winners {
+    ranks: [u64; 2 * NODES_MOST],
 }
 
-// The open node with the least key; among equals the lower number.
-pub fn first_open(tree: &[u64], n: usize) -> Next
-    requires { (n + n ≤ length tree.now) × ((1 ≤ n) × (n ≤ 1024)) }
-    ensures { Topped n tree.now result }
-{
-    let top = tree[1];
-    if top == 0 {
-        return Next::Nothing;
-    }
-    Next::Node(65535 - (top % 65536) as usize)
+impl Model for Winners {
+    ghost use Rattle.std.specs.Prelude.{List, ℕ};
+
+    ghost Value = { List ℕ };
+
+    ghost view = { λ w. w.ranks };
 }
 
-// The leaf of node v, whose entries were written, and the places above it are settled anew, as far up as anything changes.
-pub fn replay(work: &[u32], n: usize, v: usize, tree: &mut [u64])
-    requires n_in_bounds { (4 * n ≤ length work.now) × ((v < n) × (n ≤ 1024)) }
-    requires but { But n work.now v tree.old }
-    ensures { Tree n work.now tree.new }
-{
-    let mut i = n + v;
-    tree[i] = rank(work, n, v);
-    while 1 < i {
-        i = i / 2;
-        let best = larger(tree[i + i], tree[i + i + 1]);
-        if tree[i] == best {
-            return;
+impl Winners {
+    // No node is open.
+    pub fn new() -> Winners
+        ensures { (n : ℕ) → n ≤ 1024 → Bare n result }
+    {
+        Winners {
+            ranks: [0; 2 * NODES_MOST],
         }
-        tree[i] = best;
+    }
+
+    // The open node with the least key; among equals the lower number.
+    pub fn first_open(&self, n: usize) -> Option<usize>
+        requires { (1 ≤ n) × (n ≤ 1024) }
+        ensures { Topped n self.now result }
+    {
+        let top = self.ranks[1];
+        if top == 0 {
+            return None;
+        }
+        Some((NUMBERS - 1 - top % NUMBERS) as usize)
+    }
+
+    // The leaf of node v, whose entries were written, and the places above it are settled anew, as
+    // far up as anything changes.
+    pub fn replay(&mut self, work: &[u32], n: usize, v: usize)
+        requires n_in_bounds { (4 * n ≤ length work.now) × ((v < n) × (n ≤ 1024)) }
+        requires but_for_v { But n work.now v self.old }
+        ensures { Tree n work.now self.new }
+    {
+        let mut i = n + v;
+        self.ranks[i] = rank(work, n, v);
+        while 1 < i {
+            i /= 2;
+            let best = self.ranks[i + i].max(self.ranks[i + i + 1]);
+            if self.ranks[i] == best {
+                return;
+            }
+            self.ranks[i] = best;
+        }
     }
 }

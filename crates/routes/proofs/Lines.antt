@@ -2,14 +2,14 @@
 use mathlib.Core.List.{List, [], ◌∷◌, map}
 use mathlib.Core.Path.{◌≡◌, refl, ap, sym, ◌∙◌}
 use Prim.Native.Nat.{ℕ, suc, ◌+◌, ◌-◌, ◌*◌, ◌≤◌, ◌<◌}
-use native.Mathlib.Nat.{le_trans, mul-le-mul, mul-le-mul_right}
+use native.Mathlib.Nat.{le_trans, mul-le-mul}
 use native.Mathlib.Numerals.{add-one}
 use native.Mathlib.Omega.{arith}
 use lib.ListN.{length, get_or, set, take, drop, length-append, length-map, length-set, drop_of_length-le}
 use lib.Seq.{sets, length-sets, length-take-le, drop-cons, get_or-take}
 use Rattle.meaning.specs.Listing.{Stop}
 use Rattle.meaning.specs.Search.{over, back_to_back, ends_after}
-use Rattle.routes.specs.Trace.{way_in, lines_in, Linked, Leads}
+use Rattle.routes.specs.Trace.{way_in, lines_in, Leads}
 use Rattle.routes.proofs.Stores.{sets_append, sets_over}
 use Rattle.routes.proofs.Ways.{way_most}
 
@@ -50,23 +50,14 @@ pub record Lined (n : ℕ) (w listed : List ℕ) (count : ℕ) (e₀ r₀ e r : 
   pub ends_are : sets e i (ends_after at (lines_from n w listed count i)) ≡ sets e₀ 0 (ends_after 0 (lines_in n w (take count listed)))
   pub routes_are : sets r at (back_to_back (lines_from n w listed count i)) ≡ sets r₀ 0 (back_to_back (lines_in n w (take count listed)))
 
-pub lined_start : {n : ℕ} {w listed : List ℕ} {count : ℕ} {e₀ r₀ : List ℕ} → Lined n w listed count e₀ r₀ e₀ r₀ 0 0
-lined_start = record { high = omega arith; low = omega arith; ends_size = refl; routes_size = refl; ends_are = refl; routes_are = refl }
-
-pub linked : {n : ℕ} {w listed : List ℕ} {count : ℕ} → Leads n w listed count → Linked n w
-linked m = record { one = m.one; nodes = m.nodes; room = m.room; back = m.back }
-
 module _ {n : ℕ} {w listed : List ℕ} {count : ℕ} {e₀ r₀ e r : List ℕ} {at i : ℕ} (m : Leads n w listed count) (k : Lined n w listed count e₀ r₀ e r at i) where
   size : length (take count listed) ≡ count
   size = length-take-le count listed m.lines
 
-  -- room for one route more, in the buffer and in 16 bits
-  pub lined_room : i < count → count * n ≤ length r₀ → at + n ≤ length r
-  lined_room l h = omega (arith, k.low, k.routes_size, mul-le-mul_right {m = suc i} {n = count} n l)
-
+  -- an end has room in 16 bits
   pub lined_small : i < count → (end : ℕ) → end ≡ at + length (way_at n w listed i) → end ≤ 32768
   lined_small l end d =
-      omega (arith, k.low, way_most n w (get_or listed i 0 - 1) m.one, mul-le-mul {n₁ = suc i} {m₁ = n} {n₂ = 32} {m₂ = 1024} (omega (arith, m.few)) m.nodes)
+      omega (arith, k.low, way_most n w (get_or listed i 0 - 1) m.linked.one, mul-le-mul {n₁ = suc i} {m₁ = n} {n₂ = 32} {m₂ = 1024} (omega (arith, m.few)) m.linked.nodes)
 
   cut : i < count → drop i (take count listed) ≡ get_or listed i 0 ∷ drop (suc i) (take count listed)
   cut l = rw (drop-cons (take count listed) i 0 (omega (arith, size)), get_or-take count listed i 0 l)
@@ -80,7 +71,7 @@ module _ {n : ℕ} {w listed : List ℕ} {count : ℕ} {e₀ r₀ e r : List ℕ
   unfolding lines_in ends_after
   lined_on l end r' d f = rw (add-one, d, f) record {
     high = l;
-    low = omega (arith, k.low, way_most n w (get_or listed i 0 - 1) m.one);
+    low = omega (arith, k.low, way_most n w (get_or listed i 0 - 1) m.linked.one);
     ends_size = length-set e i (at + length (way_at n w listed i)) ∙ k.ends_size;
     routes_size = length-sets r at (map suc (way_at n w listed i)) ∙ k.routes_size;
     ends_are = rw (cut l) at k.ends_are;
@@ -101,4 +92,4 @@ module _ {n : ℕ} {w listed : List ℕ} {count : ℕ} {e₀ r₀ e r : List ℕ
   unfolding back_to_back
   routes_written l h =
       ap (λ (list : List Stop). sets r at (back_to_back list)) (sym (nothing l)) ∙ k.routes_are
-      ∙ sets_over r₀ (back_to_back (lines_in n w (take count listed))) (le_trans (rw size at (length_routes n w (take count listed) m.one)) h)
+      ∙ sets_over r₀ (back_to_back (lines_in n w (take count listed))) (le_trans (rw size at (length_routes n w (take count listed) m.linked.one)) h)

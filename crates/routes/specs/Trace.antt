@@ -25,10 +25,7 @@ pub record Linked (n : ℕ) (w : List ℕ) : Type 0 where
 
 -- what writing the first `count` routes asks: the memory leads back to nodes, and the listed sites are nodes
 pub record Leads (n : ℕ) (w listed : List ℕ) (count : ℕ) : Type 0 where
-  pub one : 1 ≤ n
-  pub nodes : n ≤ 1024
-  pub room : 4 * n ≤ length w
-  pub back : (v : ℕ) → v < n → get_or w (n + n + v) 0 ≤ n
+  pub linked : Linked n w
   pub few : count ≤ 32
   pub lines : count ≤ length listed
   pub low : (i : ℕ) → i < count → 1 ≤ get_or listed i 0

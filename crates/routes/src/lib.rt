@@ -13,16 +13,14 @@ fn size(work: &[u32], n: usize, v: usize) -> usize
     ensures { result ≡ length (way_in n work.now v) }
 {
     let mut here = v;
-    let mut count = 1;
-    while count < n {
+    for count in 1..n {
         let number = memory::before(work, n, here);
         if number == 0 {
             return count;
         }
         here = number - 1;
-        count += 1;
     }
-    count
+    n
 }
 
 // The route to v is written from entry `at` on, its last node first; the answer is its end.
@@ -32,17 +30,14 @@ fn write_route(work: &[u32], n: usize, v: usize, routes: &mut [u16], at: usize) 
     ensures value { result ≡ at + length (way_in n work.now v) }
     ensures routes_after { routes.new ≡ sets routes.old at (map suc (way_in n work.now v)) }
 {
-    let count = size(work, n, v);
+    let end = at + size(work, n, v);
     let mut here = v;
-    let mut done = 1;
-    loop {
-        routes[at + (count - done)] = (here + 1) as u16;
-        if done == count {
-            return at + count;
-        }
+    for place in (at + 1..end).rev() {
+        routes[place] = (here + 1) as u16;
         here = memory::before(work, n, here) - 1;
-        done += 1;
     }
+    routes[at] = (here + 1) as u16;
+    end
 }
 
 // The routes of the first `count` listed sites, back to back, and their ends.
@@ -56,16 +51,16 @@ pub fn write_routes(
 )
     requires leads { Leads n work.now listed.now count }
     requires count_in_bounds { (count ≤ length ends.old) × (count * n ≤ length routes.old) }
-    ensures ends_after { ends.new ≡ over (ends_after 0 (lines_in n work.now (take count listed.now))) ends.old }
-    ensures routes_after { routes.new ≡ over (back_to_back (lines_in n work.now (take count listed.now))) routes.old }
+    ensures ends_after { ends.new
+        ≡ over (ends_after 0 (lines_in n work.now (take count listed.now))) ends.old }
+    ensures routes_after { routes.new
+        ≡ over (back_to_back (lines_in n work.now (take count listed.now))) routes.old }
 {
     let mut at = 0;
-    let mut i = 0;
-    while i < count {
+    for i in 0..count {
         let number = listed[i] as usize;
         let end = write_route(work, n, number - 1, routes, at);
         ends[i] = end as u16;
         at = end;
-        i += 1;
     }
 }

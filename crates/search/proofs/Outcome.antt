@@ -11,13 +11,12 @@ use lib.ListN.{length, take, drop, replicate, length-map, length-replicate}
 use lib.Seq.{take-append_seam}
 use Rattle.meaning.specs.Limits.{base}
 use Rattle.meaning.specs.Region.{Tables, Rooms, rooms, Region, region_of}
-use Rattle.meaning.specs.Checks.{inspect, rooms_fit}
+use Rattle.std.specs.Prelude.{Ok}
+use Rattle.meaning.specs.Checks.{Verdict, inspect, rooms_fit}
 use Rattle.meaning.specs.Taking.{State, len_at, final, taken_count}
 use Rattle.meaning.specs.Listing.{Stop}
 use Rattle.meaning.specs.Search.{over, shown, back_to_back, ends_after, aim_of, judged, Searched}
-use Rattle.meaning.specs.declared.Verdict.{Verdict}
-use Rattle.meaning.specs.declared.Verdict.TheVariants.{Fine, Faulty}
-use Rattle.meaning.specs.declared.Answer.TheVariants.{Denied, Listed}
+use Rattle.meaning.specs.declared.Tally.{Tally}
 use Rattle.meaning.proofs.Tests.{both}
 use Rattle.meaning.proofs.Trace.{stops, list_of}
 use Rattle.meaning.proofs.Passed.{Sound, sound}
@@ -71,19 +70,21 @@ wide n k r h =
 same_rooms : {a a' b b' c c' d d' e e' : List ℕ} → a ≡ a' → b ≡ b' → c ≡ c' → d ≡ d' → e ≡ e' → rooms a b c d e ≡ rooms a' b' c' d' e'
 same_rooms p q r s u = cc
 
-pub refused : (t : Tables) (q k : ℕ) (r : Rooms) {v : Verdict} {number place : ℕ} → v ≡ inspect base t q k r → v ≡ Faulty number place → Searched base t q k r r (Denied number place)
-refused t q k r {v} {number} {place} e f =
-    subst (λ (x : Verdict). judged x t q k r r (Denied number place)) (sym f ∙ e)
-    (record { answer_is = refl; rooms_are = refl })
+abbrev tally_of : ℕ → ℕ → Tally
+tally_of sites taken = record { sites = sites; taken = taken }
 
-module _ (t : Tables) (q k : ℕ) (r : Rooms) {v : Verdict} (is : v ≡ inspect base t q k r) (fine : v ≡ Fine) where
+same_tally : {c c' n n' : ℕ} → c ≡ c' → n ≡ n' → tally_of c n ≡ tally_of c' n'
+same_tally p q = cc
+
+module _ (t : Tables) (q k : ℕ) (r : Rooms) {v : Verdict} (is : v ≡ inspect base t q k r) (fine : v ≡ Ok tt) where
   accepted : Sound base t q k r
   accepted = sound base t q k r (sym is ∙ fine)
 
-  pub may_run : Passed t q k × ((4 * t.n ≤ length r.work) × ((k ≤ length r.sites) × (k ≤ length r.lengths)))
-  may_run =
-      let a = wide t.n k r accepted.rooms in
-      (record { rooms = r; fine = sym is ∙ fine }, (a.work, (a.sites, a.lengths)))
+  pub passes : Passed t q k
+  passes = record { rooms = r; fine = sym is ∙ fine }
+
+  pub may_run : (4 * t.n ≤ length r.work) × ((k ≤ length r.sites) × (k ≤ length r.lengths))
+  may_run = let a = wide t.n k r accepted.rooms in (a.work, (a.sites, a.lengths))
 
   module _ {w listed lengths : List ℕ} {sites taken : ℕ} (ran : Ran t q k t.n r.work r.sites r.lengths w listed lengths sites taken) where
     abbrev vs : List ℕ
@@ -129,13 +130,13 @@ module _ (t : Tables) (q k : ℕ) (r : Rooms) {v : Verdict} (is : v ≡ inspect 
     pub found : {w' ends routes : List ℕ} → w' ≡ over (replicate (4 * t.n) 0) w
         → ends ≡ over (ends_after 0 (lines_in t.n w (take sites listed))) r.ends
         → routes ≡ over (back_to_back (lines_in t.n w (take sites listed))) r.routes
-        → Searched base t q k r (rooms w' listed lengths ends routes) (Listed sites taken)
+        → Searched base t q k r (rooms w' listed lengths ends routes) (Ok (tally_of sites taken))
     found {w'} {ends} {routes} ew ee er =
-        subst (λ (x : Verdict). judged x t q k r (rooms w' listed lengths ends routes) (Listed sites taken)) (sym fine ∙ is)
+        subst (λ (x : Verdict). judged x t q k r (rooms w' listed lengths ends routes) (Ok (tally_of sites taken))) (sym fine ∙ is)
         (record {
           list = list;
           listing = rw listing_is (list_fits accepted (aim_of t) (aim_fits accepted));
-          answer_is = ap (λ (x : ℕ). Listed x taken) (ran.sites_are ∙ sym (count_stops (region_of t) (state_at t q k t.n) vs)) ∙ ap (Listed (length list)) taken_is;
+          answer_is = ap Ok (same_tally (ran.sites_are ∙ sym (count_stops (region_of t) (state_at t q k t.n) vs)) taken_is);
           rooms_are =
               same_rooms (ew ∙ clear_is)
               (ran.listed_are ∙ ap (λ (xs : List ℕ). over xs r.sites) (sym (shown_stops (region_of t) (state_at t q k t.n) vs)))

@@ -1,5 +1,5 @@
 -- A run of the taking rule over tables that passed the checks: its start, a step, and where it stops.
-use mathlib.Core.Path.{◌≡◌, refl, sym, ap, subst, ◌∙◌}
+use mathlib.Core.Path.{◌≡◌, refl, sym, ap, ◌∙◌}
 use mathlib.Core.Logic.{◌⊎◌, inl, inr}
 use mathlib.Core.Bool.{Bool, true, false, not, cond, ◌||◌}
 use mathlib.Core.Option.{Option, none, some}
@@ -9,12 +9,11 @@ use native.Mathlib.Numerals.{add-one}
 use native.Mathlib.Omega.{arith}
 use borrow.Author.Tests.{le-leb, lt-leb, ltb-true, ltb-false}
 use lib.Dec.{T, not_T, leb, ltb}
-use lib.IntN.{ℤ}
 use lib.ListN.{length, get_or, set, drop, replicate, length-append, length-map}
 use lib.Seq.{drop-cons, set-append_seam}
 use Rattle.meaning.specs.Scan.{any}
 use Rattle.meaning.specs.Region.{Tables, region_of, is_site}
-use Rattle.meaning.specs.Taking.{State, memb, taken, is_open, aimed, len_at, to_sites, sites_of, mark, take1, take_at, start, full, choose, next, after, key_in}
+use Rattle.meaning.specs.Taking.{State, memb, taken, is_open, aimed, len_at, sites_of, mark, take1, take_at, start, full, choose, next, after, key_in}
 use Rattle.meaning.specs.Search.{over, aim_of}
 use Rattle.meaning.proofs.Bools.{T_true, or_left, or_right, and_both, and_make}
 use Rattle.meaning.proofs.Counting.{count}
@@ -24,17 +23,15 @@ use Rattle.meaning.proofs.Relaxing.{relax_to_taken}
 use Rattle.meaning.proofs.Listed.{Stopped, sites_in, sites_of_lem, listed_after, stays}
 use Rattle.meaning.proofs.States.{taken_old}
 use Rattle.meaning.proofs.Outcomes.{aim_fits}
-use Rattle.meaning.proofs.Demands.{lengths_most}
-use Rattle.memory.specs.declared.Next.{Next}
-use Rattle.memory.specs.declared.Next.TheVariants.{Node, Nothing}
+use Rattle.meaning.proofs.Demands.{lengths_most, taken_most}
 use Rattle.memory.specs.Memory.{SiteTold, next_of}
-use Rattle.memory.specs.Tree.{Tree}
+use Rattle.std.specs.Prelude.{Option as Maybe, Some, None}
 use Rattle.memory.proofs.Holds.{site_is}
-use Rattle.memory.specs.Aim.{Aims}
 use Rattle.taking.specs.Ways.{Bounded}
 use Rattle.taking.specs.Parents.{parents1, parents_next, parents_after}
-use Rattle.taking.specs.Steps.{places, Live, OpenSite, Took, Aiming, Stays, Chosen}
-use Rattle.search.specs.Run.{Passed, state_at, sites_at, Put, Ran}
+use Rattle.taking.specs.Steps.{Guided, Live, OpenSite, Took, Aiming, Stays, Chosen}
+use Rattle.taking.specs.declared.Guide.{Guide}
+use Rattle.search.specs.Run.{Passed, state_at, sites_at, Ends, filled, done, closed, Picks, Picked, Put, Ran}
 use Rattle.search.proofs.Checked.{S, G}
 use Rattle.search.proofs.Left.{none_left, sites_are}
 
@@ -73,13 +70,18 @@ length_more false vs u c e = e
 
 -- ---- what the memory chooses
 
-next_some : (o : Option ℕ) (u : ℕ) → Node u ≡ next_of o → o ≡ some u
+next_some : (o : Option ℕ) (u : ℕ) → Some u ≡ next_of o → o ≡ some u
 next_some none u e = let z : ◌≡◌ {A = ℕ} 0 1 = cc in absurd (omega arith)
 next_some (some v) u e = cc
 
-next_none : (o : Option ℕ) → Nothing ≡ next_of o → o ≡ none
+next_none : (o : Option ℕ) → None ≡ next_of o → o ≡ none
 next_none none e = refl
 next_none (some v) e = let z : ◌≡◌ {A = ℕ} 0 1 = cc in absurd (omega arith)
+
+-- what choosing told, as the answer of looking for the next node
+pub picked : (t : Tables) (k c : ℕ) (w w' : List ℕ) (r : Maybe ℕ) → c < k → c < t.s → Stays t w w' → Chosen t (ltb 0 c) w r → Picked t k c w w' r
+picked t k c w w' None a b z h = closed b z h
+picked t k c w w' (Some u) a b z h = record { wanted = a; left = b; stays = z; chosen = h }
 
 -- ---- the start
 
@@ -90,20 +92,9 @@ ran_by : {t : Tables} {q k i : ℕ} {work listed lengths w l d : List ℕ} {c n 
 ran_by s from e f count order live numbers lens =
     record { sites_are = rw e count; taken_are = rw e order; live = rw (e, f) live; listed_are = rw e numbers; lengths_are = rw e lens }
 
-pub begun : {t : Tables} {q k : ℕ} {listed lengths rest w : List ℕ}
-    → Live (places t.xs t.ys t.sites t.n t.s) (start (region_of (places t.xs t.ys t.sites t.n t.s)) (q - 1)) (replicate t.n 0) rest w
-    → Ran t q k 0 w listed lengths w listed lengths 0 0
-unfolding after start parents_after sites_of to_sites aimed is_site taken
-begun h = record { sites_are = refl; taken_are = refl; live = rw h.holds.past h; listed_are = refl; lengths_are = refl }
-
--- of the work memory only what follows the four quarters counts
-pub as_lent : {t : Tables} {q k i : ℕ} {work work₀ listed lengths w l d : List ℕ} {c n : ℕ} → drop (4 * t.n) work₀ ≡ drop (4 * t.n) work → Ran t q k i work₀ listed lengths w l d c n
-    → Ran t q k i work listed lengths w l d c n
-as_lent e r = record { sites_are = r.sites_are; taken_are = r.taken_are; live = rw e at r.live; listed_are = r.listed_are; lengths_are = r.lengths_are }
-
-pub all_steps : {t : Tables} {q k i e : ℕ} {work listed lengths w l d : List ℕ} {c n : ℕ} → i ≡ e → Ran t q k i work listed lengths w l d c n → Ran t q k e work listed lengths w l d c n
-all_steps {t} {q} {k} {work = work} {listed = listed} {lengths = lengths} {w = w} {l = l} {d = d} {c = c} {n = n} e r =
-    subst (λ (x : ℕ). Ran t q k x work listed lengths w l d c n) e r
+pub begun : {t : Tables} {q k : ℕ} {listed lengths work w : List ℕ} → Live t (start (region_of t) (q - 1)) (replicate t.n 0) (drop (4 * t.n) work) w → Ran t q k 0 work listed lengths w listed lengths 0 0
+unfolding after start parents_after sites_of
+begun h = record { sites_are = refl; taken_are = refl; live = h; listed_are = refl; lengths_are = refl }
 
 -- ---- a step, and where it stops
 
@@ -115,7 +106,7 @@ module _ {t : Tables} {q k : ℕ} (P : Passed t q k) {i : ℕ} {work listed leng
   from = parents_after (region_of t) (aim_of t) k (q - 1) i
 
   -- a length that has been seen, or 0
-  pub bounds : Bounded t.n 4000000000 w
+  bounds : Bounded t 4000000000 w
   bounds v b = go (get_or here.best v 0) refl
     where
       go : (x : ℕ) → get_or here.best v 0 ≡ x → get_or w v 0 ≤ 4000000000
@@ -144,12 +135,10 @@ module _ {t : Tables} {q k : ℕ} (P : Passed t q k) {i : ℕ} {work listed leng
 
   -- what choosing asks, and what it leaves
   module _ (b : c < t.s) where
-    pub aiming : Aiming (places t.xs t.ys t.sites t.n t.s) w
-    unfolding is_site aimed to_sites
+    pub aiming : Aiming t w
     aiming = record { state = here; from = from; rest = drop (4 * t.n) work; live = ran.live; left = (left b).0; aims = (left b).2 }
 
-    pub renewed : {w' : List ℕ} → Stays (places t.xs t.ys t.sites t.n t.s) w w' → Ran t q k i work listed lengths w' l d c n
-    unfolding is_site aimed to_sites
+    renewed : {w' : List ℕ} → Stays t w w' → Ran t q k i work listed lengths w' l d c n
     renewed z = record {
       sites_are = ran.sites_are;
       taken_are = ran.taken_are;
@@ -169,22 +158,21 @@ module _ {t : Tables} {q k : ℕ} (P : Passed t q k) {i : ℕ} {work listed leng
         none_in [] e t = t
         none_in (x ∷ xs) e t = omega arith
 
-    chosen : {r : Next} → Chosen (places t.xs t.ys t.sites t.n t.s) (ltb 0 c) w r → r ≡ next_of (choose (region_of t) (aim_of t) here)
-    unfolding is_site aimed to_sites choose
+    chosen : {r : Maybe ℕ} → Chosen t (ltb 0 c) w r → r ≡ next_of (choose (region_of t) (aim_of t) here)
     chosen h = h here from (drop (4 * t.n) work) (left b).0 (left b).2 all_left ran.live
 
-    pub picked_node : {r : Next} {u : ℕ} → Chosen (places t.xs t.ys t.sites t.n t.s) (ltb 0 c) w r → r ≡ Node u → choose (region_of t) (aim_of t) here ≡ some u
-    picked_node {u = u} h e = next_some (choose (region_of t) (aim_of t) here) u (sym e ∙ chosen h)
+    picked_node : {u : ℕ} → Chosen t (ltb 0 c) w (Some u) → choose (region_of t) (aim_of t) here ≡ some u
+    picked_node {u = u} h = next_some (choose (region_of t) (aim_of t) here) u (chosen h)
 
-    pub picked_none : {r : Next} → Chosen (places t.xs t.ys t.sites t.n t.s) (ltb 0 c) w r → r ≡ Nothing → choose (region_of t) (aim_of t) here ≡ none
-    picked_none h e = next_none (choose (region_of t) (aim_of t) here) (sym e ∙ chosen h)
+    picked_none : Chosen t (ltb 0 c) w None → choose (region_of t) (aim_of t) here ≡ none
+    picked_none h = next_none (choose (region_of t) (aim_of t) here) (chosen h)
 
-  pub first_of : {u : ℕ} → choose (region_of t) (aim_of t) here ≡ some u → First (is_open here) (key_in (region_of t) (aim_of t) here) t.n u
+  first_of : {u : ℕ} → choose (region_of t) (aim_of t) here ≡ some u → First (is_open here) (key_in (region_of t) (aim_of t) here) t.n u
   unfolding choose
   first_of e = rw e at (first_is (is_open here) (key_in (region_of t) (aim_of t) here) t.n)
 
   -- the node that goes next is open, and what is held of it tells whether it is a site
-  pub open_site : {u : ℕ} → choose (region_of t) (aim_of t) here ≡ some u → OpenSite t.sites t.n t.s u w
+  open_site : {u : ℕ} → choose (region_of t) (aim_of t) here ≡ some u → OpenSite t u w
   unfolding is_open is_site
   open_site {u = u} e =
       let F = first_of e in
@@ -210,7 +198,7 @@ module _ {t : Tables} {q k : ℕ} (P : Passed t q k) {i : ℕ} {work listed leng
         (relax_to_taken (region_of t) (G P).valid (taken (mark here u)) here.best u (len_at here.best u) (listed_after (G P) k i).inv.size t.m (omega arith) v
         (taken_old here u v (sites_in (region_of t) here.order v z).0))))
 
-  pub advanced : {u : ℕ} {site : Bool} {w' l' d' : List ℕ} {c' : ℕ} → c < k → c < t.s → c < length listed → c < length lengths → choose (region_of t) (aim_of t) here ≡ some u
+  advanced : {u : ℕ} {site : Bool} {w' l' d' : List ℕ} {c' : ℕ} → c < k → c < t.s → c < length listed → c < length lengths → choose (region_of t) (aim_of t) here ≡ some u
       → SiteTold t.n w u site → Took t u w w' → Put site u (get_or w' u 0 - 1) c l d l' d' c' → Ran t q k (suc i) work listed lengths w' l' d' c' (suc n)
   unfolding take1 sites_of
   advanced {u = u} {site = site} {w' = w'} {l' = l'} {d' = d'} {c' = c'} a b room₁ room₂ picks told took put =
@@ -256,23 +244,49 @@ module _ {t : Tables} {q k : ℕ} (P : Passed t q k) {i : ℕ} {work listed leng
         let x : i + (e - i) ≡ e = omega arith in
         ran_by here from (rw x at h.0) (rw x at h.1) ran.sites_are ran.taken_are ran.live ran.listed_are ran.lengths_are
 
-  pub stops_filled : k ≤ c → (e : ℕ) → i ≤ e → Ran t q k e work listed lengths w l d c n
+  -- as many nodes are taken as steps are made, and no more than there are
+  pub few_taken : n ≤ t.n
+  few_taken = let a = ran.taken_are in let b = taken_most (S P) (aim_of t) (aim_fits (S P)) i in omega arith
+
+  stops_filled : k ≤ c → (e : ℕ) → i ≤ e → Ran t q k e work listed lengths w l d c n
   stops_filled a = ended (inl (rw full_is (or_left (leb k c) (leb t.s c) (rw (le-leb k c a) tt))))
 
-  pub stops_done : t.s ≤ c → (e : ℕ) → i ≤ e → Ran t q k e work listed lengths w l d c n
+  stops_done : t.s ≤ c → (e : ℕ) → i ≤ e → Ran t q k e work listed lengths w l d c n
   stops_done a = ended (inl (rw full_is (or_right (leb k c) (leb t.s c) (rw (le-leb t.s c a) tt))))
 
-  pub stops_closed : choose (region_of t) (aim_of t) here ≡ none → (e : ℕ) → i ≤ e → Ran t q k e work listed lengths w l d c n
+  stops_closed : choose (region_of t) (aim_of t) here ≡ none → (e : ℕ) → i ≤ e → Ran t q k e work listed lengths w l d c n
   stops_closed z = ended (inr z)
 
+-- where no node is next, the run is at its end
+pub stopped : {t : Tables} {q k : ℕ} (P : Passed t q k) {i : ℕ} {work listed lengths w l d : List ℕ} {c n : ℕ} (ran : Ran t q k i work listed lengths w l d c n) {w' : List ℕ} → Ends t k c w w' → (e : ℕ) → i ≤ e
+    → Ran t q k e work listed lengths w' l d c n
+stopped P ran (filled a s) e m = rw s (stops_filled P ran a e m)
+stopped P ran (done a s) e m = rw s (stops_done P ran a e m)
+stopped P ran (closed b z h) e m = stops_closed P (renewed P ran b z) (picked_none P ran b h) e m
+
+-- ---- the node that is next, as the loop takes it
+
+module _ {t : Tables} {q k : ℕ} (P : Passed t q k) {i : ℕ} {work listed lengths w l d : List ℕ} {c n : ℕ} (ran : Ran t q k i work listed lengths w l d c n) {w' : List ℕ} {u : ℕ} (picks : Picks t k c w w' u) where
+  ran_on : Ran t q k i work listed lengths w' l d c n
+  ran_on = renewed P ran picks.left picks.stays
+
+  node : choose (region_of t) (aim_of t) (state_at t q k i) ≡ some u
+  node = picked_node P ran picks.left picks.chosen
+
+  pub in_bounds : (4 * t.n ≤ length w') × (u < t.n)
+  in_bounds = (ran_on.live.holds.room, (first_of P ran node).below)
+
+  pub bounded : Bounded t 4000000000 w'
+  bounded = bounds P ran_on
+
+  pub opened : OpenSite t u w'
+  opened = open_site P ran_on node
+
+  pub stepped : {site : Bool} {w'' l' d' : List ℕ} {c' : ℕ} → c < length listed → c < length lengths
+      → SiteTold t.n w' u site → Took t u w' w'' → Put site u (get_or w'' u 0 - 1) c l d l' d' c' → Ran t q k (i + 1) work listed lengths w'' l' d' c' (n + 1)
+  stepped room₁ room₂ told took put = rw (add-one i, add-one n) (advanced P ran_on picks.wanted picks.left room₁ room₂ node told took put)
+
 -- what the loop keeps to
-pub record Going (t : Tables) (q k : ℕ) (ax₀ : List ℤ) (tree₀ work₀ listed₀ lengths₀ : List ℕ) (ax ay : List ℤ) (tree work listed lengths : List ℕ) (count taken : ℕ) : Type 0 where
-  pub most : taken ≤ t.n
-  pub ran : Ran t q k taken work₀ listed₀ lengths₀ work listed lengths count taken
-  pub tree_is : Tree t.n work tree
-  pub aims : Aims t.xs t.ys t.sites t.n t.s work ax ay
-  pub ax_kept : length ax ≡ length ax₀
-  pub tree_kept : length tree ≡ length tree₀
-  pub work_kept : length work ≡ length work₀
-  pub listed_kept : length listed ≡ length listed₀
-  pub lengths_kept : length lengths ≡ length lengths₀
+pub record Going (t : Tables) (q k : ℕ) (work₀ listed₀ lengths₀ : List ℕ) (guide : Guide) (work listed lengths : List ℕ) (sites taken : ℕ) : Type 0 where
+  pub ran : Ran t q k taken work₀ listed₀ lengths₀ work listed lengths sites taken
+  pub guided : Guided t work guide

@@ -160,10 +160,12 @@ module _ {t : Tables} {q k : ℕ} {r : Rooms} (S : Sound base t q k r) (i : ℕ)
       let f = listed_at.size in
       let z = S.lines in
       record {
-        one = S.nodes.0;
-        nodes = S.nodes.1;
-        room = ran.live.holds.room;
-        back = λ v l. rw (ran.live.holds.before v l) (parents_below G k i v);
+        linked = record {
+          one = S.nodes.0;
+          nodes = S.nodes.1;
+          room = ran.live.holds.room;
+          back = λ v l. rw (ran.live.holds.before v l) (parents_below G k i v);
+        };
         few = omega arith;
         lines = rw (e, length-append, length-map) (omega arith);
         low = λ j l. rw e (within t.n vs below _ j (omega arith)).0;

@@ -1,5 +1,4 @@
 -- what others cite
 pub mod Laws
--- the square of a signed difference, and Newton's method
-mod Gaps
+-- Newton's method
 mod Newton

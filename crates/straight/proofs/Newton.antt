@@ -1,4 +1,5 @@
--- Newton's method for the root: the first guess is above the root, and the next guess from any is no less than it.
+-- Newton's method for the root: the first guess is above the root, and the next guess from any is
+-- no less than it.
 use mathlib.Core.Path.{◌≡◌, sym, subst, ◌∙◌}
 use Prim.Native.Nat.{ℕ, zero, suc, ◌+◌, ◌-◌, ◌*◌, ◌/◌, ◌%◌, ◌^◌, ◌≤◌, ◌<◌}
 use native.Mathlib.Nat.{le_of_eq, lt_of_lt_of_le, le_trans, one-mul, div-lt_iff_lt-mul, le-div_iff_mul-le}

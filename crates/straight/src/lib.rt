@@ -1,27 +1,30 @@
-// Road and straight line: the whole root, squared distances, and the total, where the two kinds of length meet.
+// Road and straight line: the whole root, squared distances, and the total, where the two kinds of
+// length meet.
 #![tactic(auto)]
 
-ghost use Rattle.std.specs.Prelude.{◌≡◌, ◌*◌, ◌≤◌, nat_abs};
+ghost use Rattle.std.specs.Prelude.{◌≡◌, ◌*◌, ◌≤◌};
 ghost use Rattle.meaning.specs.Straight.{gap, root as root_of, squares as squares_of};
 ghost use Rattle.meaning.specs.Taking.{total as total_of};
 ghost use Rattle.straight.specs.Points.{Placed, entry, farthest};
 
-// A length by road, d_N, and a straight line's length, d_E.
+// A length by road, d_N.
 #[derive(Clone, Copy)]
 pub struct Road(pub u32);
 
+// A straight line's length, d_E.
 #[derive(Clone, Copy)]
 pub struct Line(pub u32);
 
-// The largest whole number whose square is at most x, by Newton's method: the first guess is a power of two above the root, and each
-// next one is less and still no less than the root. Nothing is multiplied, so the square of a guess need not fit.
+// The largest whole number whose square is at most x, by Newton's method: the first guess is a
+// power of two above the root, and each next one is less and still no less than the root. Nothing
+// is multiplied, so the square of a guess need not fit.
 pub fn root(x: u64) -> u64
     ensures { result ≡ root_of x }
 {
     if x == 0 {
         return 0;
     }
-    let mut guess = 1u64 << ((65 - u64::leading_zeros(x)) / 2);
+    let mut guess = 1u64 << ((65 - x.leading_zeros()) / 2);
     let mut share = x / guess;
     while share < guess {
         guess = (guess + share) / 2;
@@ -31,18 +34,18 @@ pub fn root(x: u64) -> u64
 }
 
 // The square of the difference of two coordinates.
+#[tactic(auto, unfolding(meaning::specs::Straight::gap))]
 pub fn apart(a: i32, b: i32) -> u64
-    requires { (nat_abs a ≤ 1000000000) × (nat_abs b ≤ 1000000000) }
     ensures { result ≡ gap a b * gap a b }
 {
-    let d = (a as i64) - (b as i64);
-    (d * d) as u64
+    let d = a.abs_diff(b) as u64;
+    d * d
 }
 
 // dx squared plus dy squared, of two nodes.
 pub fn squares(xs: &[i32], ys: &[i32], a: usize, b: usize) -> u64
-    requires placed { Placed xs.now ys.now a }
-    requires placed_2 { Placed xs.now ys.now b }
+    requires from { Placed xs.now ys.now a }
+    requires to { Placed xs.now ys.now b }
     ensures { (result ≡ squares_of (entry xs.now) (entry ys.now) a b) × (result ≤ farthest) }
 {
     apart(xs[a], xs[b]) + apart(ys[a], ys[b])
@@ -52,7 +55,5 @@ pub fn squares(xs: &[i32], ys: &[i32], a: usize, b: usize) -> u64
 pub fn total(road: Road, line: Line) -> u64
     ensures { result ≡ total_of road.0 line.0 }
 {
-    let by_road = road.0;
-    let as_line = line.0;
-    (by_road as u64) + (as_line as u64)
+    (road.0 as u64) + (line.0 as u64)
 }

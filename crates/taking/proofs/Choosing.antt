@@ -1,7 +1,8 @@
 -- The open node that goes next: the tree's top, once its estimate is the present one.
 use mathlib.Core.Bool.{Bool, true, false, not, ◌&&◌}
 use mathlib.Core.List.{List}
-use mathlib.Core.Option.{Option, none, some}
+use mathlib.Core.Option.{Option as Found, none, some}
+use Rattle.std.specs.Prelude.{Some, None}
 use mathlib.Core.Path.{◌≡◌, refl, sym, ap, ◌∙◌}
 use Prim.Native.Nat.{ℕ, ◌+◌, ◌≤◌, ◌<◌}
 use native.Mathlib.Omega.{arith}
@@ -15,42 +16,41 @@ use Rattle.meaning.specs.Taking.{State, is_open, aimed, key_in, choose}
 use Rattle.meaning.specs.Search.{aim_of}
 use Rattle.meaning.proofs.Counting.{count, count_more}
 use Rattle.meaning.proofs.Scans.{First, IsFirst, first_is}
-use Rattle.memory.specs.declared.Next.TheVariants.{Node, Nothing}
 use Rattle.memory.specs.Memory.{rival_of, is_taken, key_at, next_of}
 use Rattle.memory.specs.Aim.{Ground, SameTaken}
-use Rattle.memory.specs.Tree.{open_at, Tree, Elsewhere}
+use Rattle.memory.specs.Tree.{open_at}
 use Rattle.memory.proofs.Holds.{rival_is, open_is, key_is}
 use Rattle.memory.proofs.Lines.{line_is}
 use Rattle.memory.proofs.Writes.{line_with, held_aim}
-use Rattle.memory.proofs.TreeChanges.{else_none, else_rival}
-use Rattle.taking.specs.Steps.{Live, rival_at, Aiming, Stays}
-use Rattle.taking.proofs.Reaching.{rival_not_taken, else_taken, with_present, with_same}
+use Rattle.taking.specs.declared.Guide.{Guide}
+use Rattle.taking.specs.Steps.{Guided, Live, rival_at, Aiming, Stays}
+use Rattle.taking.proofs.Reaching.{rival_not_taken, with_present, with_same}
 
 -- ---- what a scan found
 
 module _ (ok : ℕ → Bool) (k : ℕ → ℕ) (n : ℕ) where
-  found_node : (o : Option ℕ) → IsFirst ok k n o → (v : ℕ) → Node v ≡ next_of o → First ok k n v
+  found_node : (o : Found ℕ) → IsFirst ok k n o → (v : ℕ) → Some v ≡ next_of o → First ok k n v
   found_node none h v e = let z : ◌≡◌ {A = ℕ} 0 1 = cc in absurd (omega arith)
   found_node (some u) h v e = let q : v ≡ u = cc in rw q h
 
-  found_none : (o : Option ℕ) → IsFirst ok k n o → Nothing ≡ next_of o → (u : ℕ) → u < n → T (ok u) → ⊥
+  found_none : (o : Found ℕ) → IsFirst ok k n o → None ≡ next_of o → (u : ℕ) → u < n → T (ok u) → ⊥
   found_none none h e = h
   found_none (some v) h e = let z : ◌≡◌ {A = ℕ} 0 1 = cc in absurd (omega arith)
 
-  node_found : (o : Option ℕ) → IsFirst ok k n o → (v : ℕ) → First ok k n v → Node v ≡ next_of o
+  node_found : (o : Found ℕ) → IsFirst ok k n o → (v : ℕ) → First ok k n v → Some v ≡ next_of o
   node_found none h v F = absurd (h v F.below F.holds)
   node_found (some u) h v F =
       let a = F.lower u h.below h.holds (h.least v F.below F.holds) in
       let b = h.lower v F.below F.holds (F.least u h.below h.holds) in
       let e : v ≡ u = omega arith in
-      ap Node e
+      ap Some e
 
-  none_found : (o : Option ℕ) → IsFirst ok k n o → ((u : ℕ) → u < n → T (ok u) → ⊥) → Nothing ≡ next_of o
+  none_found : (o : Found ℕ) → IsFirst ok k n o → ((u : ℕ) → u < n → T (ok u) → ⊥) → None ≡ next_of o
   none_found none h z = refl
   none_found (some v) h z = absurd (z v h.below h.holds)
 
 -- who stands at the top, as a scan
-pub top_is : (n : ℕ) (w : List ℕ) (v : ℕ) → Node v ≡ next_of (first (open_at n w) (key_at n w) n) → First (open_at n w) (key_at n w) n v
+pub top_is : (n : ℕ) (w : List ℕ) (v : ℕ) → Some v ≡ next_of (first (open_at n w) (key_at n w) n) → First (open_at n w) (key_at n w) n v
 top_is n w v e = found_node (open_at n w) (key_at n w) n (first (open_at n w) (key_at n w) n) (first_is (open_at n w) (key_at n w) n) v e
 
 -- an open node has not been taken
@@ -60,7 +60,7 @@ open_not_taken n w v o = rival_not_taken n v w (λ e. rw (eq-eqb (get_or w (n + 
 -- ---- in a state that the memory holds
 
 -- what would be held of v now
-present : (t : Tables) → Ground t.xs t.ys t.sites t.n t.s → {s : State} {from rest w : List ℕ} → Live t s from rest w
+present : (t : Tables) → Ground t → {s : State} {from rest w : List ℕ} → Live t s from rest w
     → (v : ℕ) → rival_at t w v ≡ rival_of (aim_of t (aimed (region_of t) s) v) (is_site (region_of t) v)
 unfolding is_site
 present t g L v = rw (line_is t g L.holds v)
@@ -69,7 +69,7 @@ present t g L v = rw (line_is t g L.holds v)
 abbrev pub stale : Tables → List ℕ → ℕ → Bool
 stale t w v = ltb v t.n && not (eqb (get_or w (t.n + v) 0) (rival_at t w v))
 
-module _ (t : Tables) (g : Ground t.xs t.ys t.sites t.n t.s) {s : State} {from rest w : List ℕ} (L : Live t s from rest w) where
+module _ (t : Tables) (g : Ground t) {s : State} {from rest w : List ℕ} (L : Live t s from rest w) where
   abbrev aim : ℕ → ℕ
   aim = aim_of t (aimed (region_of t) s)
 
@@ -77,7 +77,7 @@ module _ (t : Tables) (g : Ground t.xs t.ys t.sites t.n t.s) {s : State} {from r
   open_here v l o = rw (← (open_is L.holds v l)) o
 
   -- nobody stands at the top
-  pub chosen_none : Nothing ≡ next_of (first (open_at t.n w) (key_at t.n w) t.n) → Nothing ≡ next_of (choose (region_of t) (aim_of t) s)
+  pub chosen_none : None ≡ next_of (first (open_at t.n w) (key_at t.n w) t.n) → None ≡ next_of (choose (region_of t) (aim_of t) s)
   unfolding choose
   chosen_none e =
       none_found (is_open s) (key_in (region_of t) (aim_of t) s) t.n (first (is_open s) (key_in (region_of t) (aim_of t) s) t.n) (first_is (is_open s) (key_in (region_of t) (aim_of t) s) t.n)
@@ -85,7 +85,7 @@ module _ (t : Tables) (g : Ground t.xs t.ys t.sites t.n t.s) {s : State} {from r
 
   module _ (v : ℕ) (F : First (open_at t.n w) (key_at t.n w) t.n v) where
     -- v stands there with its present estimate: no other node has a lower total, for none has a lower one under an estimate that is no higher
-    pub chosen_node : (j : ℕ) → T (aimed (region_of t) s j) → get_or w (t.n + v) 0 ≡ rival_at t w v → Node v ≡ next_of (choose (region_of t) (aim_of t) s)
+    pub chosen_node : (j : ℕ) → T (aimed (region_of t) s j) → get_or w (t.n + v) 0 ≡ rival_at t w v → Some v ≡ next_of (choose (region_of t) (aim_of t) s)
     unfolding choose
     chosen_node j m e =
         node_found (is_open s) (key_in (region_of t) (aim_of t) s) t.n (first (is_open s) (key_in (region_of t) (aim_of t) s) t.n) (first_is (is_open s) (key_in (region_of t) (aim_of t) s) t.n) v
@@ -112,7 +112,7 @@ module _ (t : Tables) (g : Ground t.xs t.ys t.sites t.n t.s) {s : State} {from r
         same = rw (key_is L.holds v F.below (open_here v F.below F.holds), exact)
 
     -- all sites are left, so every node stands with its present estimate
-    pub chosen_exact : ((j : ℕ) → T (is_site (region_of t) j) → T (aimed (region_of t) s j)) → Node v ≡ next_of (choose (region_of t) (aim_of t) s)
+    pub chosen_exact : ((j : ℕ) → T (is_site (region_of t) j) → T (aimed (region_of t) s j)) → Some v ≡ next_of (choose (region_of t) (aim_of t) s)
     unfolding choose
     chosen_exact a =
         node_found (is_open s) (key_in (region_of t) (aim_of t) s) t.n (first (is_open s) (key_in (region_of t) (aim_of t) s) t.n) (first_is (is_open s) (key_in (region_of t) (aim_of t) s) t.n) v
@@ -139,12 +139,6 @@ module _ (t : Tables) (g : Ground t.xs t.ys t.sites t.n t.s) {s : State} {from r
         exact = λ a x. with_same L.line aim v x (L.exact a x);
       }
 
-      pub raised_taken : SameTaken t.n w w'
-      raised_taken =
-          let h = here in
-          let E : Elsewhere t.n v w w' = rw e (else_rival (else_none t.n v w) F.below (rival_at t w v)) in
-          else_taken E (open_not_taken t.n w v F.holds) (λ z. omega arith)
-
       -- so one node fewer is held otherwise
       pub fewer : (get_or w (t.n + v) 0 ≡ rival_at t w v → ⊥) → count (stale t w') t.n < count (stale t w) t.n
       fewer z = let c = count_more (stale t w') (stale t w) v t.n F.below after before other in omega arith
@@ -166,15 +160,11 @@ module _ (t : Tables) (g : Ground t.xs t.ys t.sites t.n t.s) {s : State} {from r
 -- ---- the loop
 
 -- estimates have been stored, and the same state is held
-pub record Keeping (t : Tables) (w₀ tree₀ w tree : List ℕ) : Type 0 where
+pub record Keeping (t : Tables) (w₀ w : List ℕ) (guide : Guide) : Type 0 where
   pub size : length w ≡ length w₀
-  pub tree_size : length tree ≡ length tree₀
-  pub stands : Tree t.n w tree
+  pub guided : Guided t w guide
   pub same : SameTaken t.n w₀ w
   pub stays : Stays t w₀ w
 
-pub keep_none : (t : Tables) (w tree : List ℕ) → Tree t.n w tree → Keeping t w tree w tree
-keep_none t w tree T = record { size = refl; tree_size = refl; stands = T; same = λ v l. refl; stays = λ s from rest j m L. L }
-
-pub held : (t : Tables) {w₀ tree₀ w tree : List ℕ} (A : Aiming t w₀) → Keeping t w₀ tree₀ w tree → Live t A.state A.from A.rest w
+pub held : (t : Tables) {w₀ w : List ℕ} {guide : Guide} (A : Aiming t w₀) → Keeping t w₀ w guide → Live t A.state A.from A.rest w
 held t A K = K.stays A.state A.from A.rest A.left A.aims A.live

@@ -2,13 +2,10 @@
 use mathlib.Core.Bool.{Bool, true, false, not, ◌||◌}
 use mathlib.Core.List.{List}
 use mathlib.Core.Path.{◌≡◌, refl, ap, fun_ext, ◌∙◌}
-use Prim.Native.Nat.{ℕ, ◌+◌, ◌*◌, ◌≤◌, ◌<◌}
-use native.Mathlib.Decide.{ℕ_discrete}
+use Prim.Native.Nat.{ℕ, ◌+◌, ◌<◌}
 use native.Mathlib.Omega.{arith}
-use borrow.Author.Tests.{eq-eqb, ne_eqb}
 use lib.Dec.{T, eqb}
-use lib.ListN.{length, get_or, set}
-use lib.Seq.{get_or-set_same, get_or-set_other}
+use lib.ListN.{set}
 use Rattle.meaning.specs.Region.{Tables, Region, region_of, is_site, x_at, y_at}
 use Rattle.meaning.specs.Straight.{straight}
 use Rattle.meaning.specs.Taking.{State, taken, memb, is_open, aimed, mark}
@@ -16,35 +13,11 @@ use Rattle.meaning.specs.Search.{aim_of}
 use Rattle.meaning.proofs.Bools.{and_both, and_make, nor_both}
 use Rattle.meaning.proofs.Estimates.{sites_mono}
 use Rattle.meaning.proofs.Relaxing.{aimed_site}
-use Rattle.memory.specs.Memory.{is_taken}
-use Rattle.memory.specs.Tree.{Tree, But}
 use Rattle.memory.proofs.Writes.{held_close}
-use Rattle.memory.proofs.TreeChanges.{else_none, else_rival, tree_but}
-use Rattle.taking.specs.Steps.{Live, SameLens, Shut, Closed}
+use Rattle.taking.specs.Steps.{Live, Closed}
 
--- entry n + v is written
-module _ (n v r : ℕ) (w : List ℕ) (l : v < n) where
-  pub rival_tree : {t : List ℕ} → Tree n w t → But n (set w (n + v) r) v t
-  rival_tree t = tree_but t (else_rival (else_none n v w) l r)
-
-  pub rival_apart : SameLens n w (set w (n + v) r)
-  rival_apart x k = get_or-set_other w (n + v) x r 0 (λ e. omega arith)
-
-module _ (n u : ℕ) (w : List ℕ) (l : u < n) where
-  pub closed : Closed n u w (set w (n + u) 0)
-  closed site line s from rest H o = held_close H u l o
-
-  pub shut : 4 * n ≤ length w → 0 < get_or w u 0 → Shut n u w (set w (n + u) 0)
-  shut room p x k = go (ℕ_discrete x u)
-    where
-      go : Dec (x ≡ u) → is_taken n (set w (n + u) 0) x ≡ (eqb x u || is_taken n w x)
-      go (yes e) =
-          let a = rival_apart n u 0 w l u l in
-          let b = get_or-set_same w (n + u) 0 0 (omega arith) in
-          rw (e, a, b, ne_eqb (get_or w u 0) 0 (λ z. omega arith), eq-eqb u u refl)
-      go (no z) =
-          let E = else_rival (else_none n u w) l 0 in
-          rw (E.lens x k z, E.rivals x k z, ne_eqb x u z)
+pub closed : (n u : ℕ) (w : List ℕ) → u < n → Closed n u w (set w (n + u) 0)
+closed n u w l site line s from rest H o = held_close H u l o
 
 -- what is aimed at when u is taken was aimed at before
 aimed_less : (R : Region) (s : State) (u v : ℕ) → T (aimed R (mark s u) v) → T (aimed R s v)

@@ -16,11 +16,11 @@ use Rattle.meaning.specs.Search.{aim_of}
 use Rattle.meaning.proofs.Bools.{T_false, and_both}
 use Rattle.memory.specs.Memory.{Holds, is_taken, rival_of}
 use Rattle.memory.specs.Aim.{Ground, SameTaken}
-use Rattle.memory.specs.Tree.{Tree, But, SameKeys, Elsewhere}
+use Rattle.memory.specs.Tree.{SameKeys, Elsewhere}
 use Rattle.memory.proofs.Holds.{open_is, taken_is}
 use Rattle.memory.proofs.Lines.{line_is}
 use Rattle.memory.proofs.Writes.{line_with, unseen_untaken, held_lead, held_open, held_shorten}
-use Rattle.memory.proofs.TreeChanges.{else_none, else_length, else_rival, else_lead, tree_but}
+use Rattle.memory.proofs.TreeChanges.{else_none, else_length, else_rival}
 use Rattle.taking.specs.Parents.{parent_at}
 use Rattle.taking.specs.Steps.{reached, Live, Arrived, Reached, rival_at}
 
@@ -49,6 +49,11 @@ else_taken {n} {v} {w} {w'} E k z x l = go (ℕ_discrete x v)
     go (yes e) = rw e (rival_not_taken n v w' z ∙ sym k)
     go (no d) = rw (E.lens x l d, E.rivals x l d)
 
+-- what is held of an open node is written anew
+pub rival_taken : (n v r : ℕ) (w : List ℕ) → v < n → n + v < length w → is_taken n w v ≡ false → 0 < r → SameTaken n w (set w (n + v) r)
+rival_taken n v r w l room k p =
+    else_taken (else_rival (else_none n v w) l r) k (λ z. omega (arith, get_or-set_same w (n + v) r 0 room))
+
 -- the node before h on the route is none of what nodes are compared by
 pub lead_keys : (n h a : ℕ) (w : List ℕ) → h < n → SameKeys n w (set w (n + n + h) a)
 lead_keys n h a w l = record {
@@ -61,6 +66,12 @@ pub open_taken : (n h at r : ℕ) (w : List ℕ) → h < n → n + h < length w 
 open_taken n h at r w l room k p =
     let e = get_or-set_same (set w h at) (n + h) r 0 (rw length-set room) in
     else_taken (else_rival (else_length (else_none n h w) l at) l r) k (λ z. omega arith)
+
+-- with u before it
+pub opened_taken : (n u h at r : ℕ) (w : List ℕ) → h < n → n + h < length w → get_or w h 0 ≡ 0 → 0 < r
+    → SameTaken n w (set (set (set w h at) (n + h) r) (n + n + h) (u + 1))
+opened_taken n u h at r w l room z p x k =
+    keys_taken (lead_keys n h (u + 1) (set (set w h at) (n + h) r) l) x k ∙ open_taken n h at r w l room (unseen_not_taken n h w z) p x k
 
 -- ---- the number before, by the length of h and that of the arc
 
@@ -153,26 +164,6 @@ longer n u h at w l z g site line s from rest p H =
     let e = H.lens h l in
     rw (stays s h at (omega arith) (omega arith), parent_longer (taken s) u at h s.best from (omega arith) (omega arith)) H
 
--- ---- in the tree, and who is taken
-
-module _ (n u h at : ℕ) (w : List ℕ) (l : h < n) where
-  pub shorten_tree : {t : List ℕ} → Tree n w t → But n (set (set w h at) (n + n + h) (u + 1)) h t
-  shorten_tree t = tree_but t (else_lead (else_length (else_none n h w) l at) h (u + 1) l)
-
-  pub shorten_taken : (get_or w (n + h) 0 ≡ 0 → ⊥) → SameTaken n w (set (set w h at) (n + n + h) (u + 1))
-  shorten_taken z x k =
-      let e = get_or-set_other w h (n + h) at 0 (λ e. omega arith) in
-      keys_taken (lead_keys n h (u + 1) (set w h at) l) x k
-      ∙ else_taken (else_length (else_none n h w) l at) (rival_not_taken n h w z) (λ y. z (omega arith)) x k
-
-  module _ (r : ℕ) where
-    pub opened_tree : {t : List ℕ} → Tree n w t → But n (set (set (set w h at) (n + h) r) (n + n + h) (u + 1)) h t
-    opened_tree t = tree_but t (else_lead (else_rival (else_length (else_none n h w) l at) l r) h (u + 1) l)
-
-    pub opened_taken : n + h < length w → get_or w h 0 ≡ 0 → 0 < r → SameTaken n w (set (set (set w h at) (n + h) r) (n + n + h) (u + 1))
-    opened_taken room z p x k =
-        keys_taken (lead_keys n h (u + 1) (set (set w h at) (n + h) r) l) x k ∙ open_taken n h at r w l room (unseen_not_taken n h w z) p x k
-
 -- ---- with the estimates
 
 -- the present estimates follow the taken nodes, and no node is taken
@@ -201,7 +192,7 @@ with_same line aim v x l = go (eqb x v) (eqb→eq x v)
     go false e = l
 
 -- a node that has not been seen is opened, with the estimate just made
-pub opened : (t : Tables) (u h at : ℕ) (w : List ℕ) → Ground t.xs t.ys t.sites t.n t.s → h < t.n → get_or w h 0 ≡ 0
+pub opened : (t : Tables) (u h at : ℕ) (w : List ℕ) → Ground t → h < t.n → get_or w h 0 ≡ 0
     → (r : ℕ) → r ≡ rival_at t w h → Reached t u h at w (set (set (set w h at) (t.n + h) r) (t.n + t.n + h) (u + 1))
 unfolding aimed taken is_site
 opened t u h at w g l z r er s from rest p L =

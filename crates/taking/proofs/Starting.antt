@@ -33,7 +33,7 @@ module _ (n : ℕ) (w w₁ : List ℕ) (room : 4 * n ≤ length w) (e : w₁ ≡
   start_tree q a r l B =
       but_bare B (λ x k z. get_or-set_other (set w₁ q a) (n + q) (n + x) r 0 (λ y. z (omega arith)) ∙ get_or-set_other w₁ q (n + x) a 0 (λ y. omega arith) ∙ none_open x k)
 
-pub started : (t : Tables) (q : ℕ) (w w₁ : List ℕ) → 4 * t.n ≤ length w → q < t.n → Ground t.xs t.ys t.sites t.n t.s → w₁ ≡ over (replicate (4 * t.n) 0) w
+pub started : (t : Tables) (q : ℕ) (w w₁ : List ℕ) → 4 * t.n ≤ length w → q < t.n → Ground t → w₁ ≡ over (replicate (4 * t.n) 0) w
     → (r : ℕ) → r ≡ rival_at t w₁ q → Live t (start (region_of t) q) (replicate t.n 0) (drop (4 * t.n) w) (set (set w₁ q 1) (t.n + q) r)
 unfolding start aimed taken is_site
 started t q w w₁ room l g e r er =

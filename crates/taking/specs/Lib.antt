@@ -1,6 +1,6 @@
 -- the nodes before, as arcs are followed
 pub mod Parents
--- what a step asks of arcs and lengths
+-- how arcs are linked, and what a step asks of lengths
 pub mod Ways
 -- what it does
 pub mod Steps

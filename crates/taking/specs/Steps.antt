@@ -1,16 +1,18 @@
 -- What a step does to the state that the memory holds.
-use Rattle.std.specs.Prelude.{Bool, true, false, cond, ◌||◌, List, [], ◌≡◌, ℕ, ◌+◌, ◌%◌, ◌≤◌, ◌<◌, T, eqb, ℤ, get_or, set}
-use Rattle.meaning.specs.Region.{Tables, tables, region_of, is_site}
+use Rattle.std.specs.Prelude.{Option, Bool, true, false, cond, ◌||◌, List, ◌≡◌, ℕ, ◌+◌, ◌%◌, ◌≤◌, ◌<◌, T, eqb, get_or, set}
+use Rattle.meaning.specs.Region.{Tables, region_of, is_site}
 use Rattle.meaning.specs.Taking.{State, taken, is_open, aimed, len_at, lower, relax_to, mark, take1, choose}
 use Rattle.meaning.specs.Search.{aim_of}
-use Rattle.memory.specs.declared.Next.{Next}
 use Rattle.memory.specs.Memory.{Holds, rival_of, is_taken, next_of}
-use Rattle.memory.specs.Aim.{site_in, line_to}
+use Rattle.memory.specs.Aim.{site_in, line_to, SideBySide}
+use Rattle.memory.specs.Tree.{Tree}
+use Rattle.taking.specs.declared.Guide.{Guide}
 use Rattle.taking.specs.Parents.{parent_at, parents_to, parents1}
 
--- tables of which only the points and the sites are known; the arcs don't show in what the memory holds
-abbrev pub places : List ℤ → List ℤ → List ℕ → ℕ → ℕ → Tables
-places xs ys sites n s = tables [] [] [] xs ys sites n 0 s
+-- what stands beside the memory w: the sites, each far off once it is taken, and the tree of the open nodes
+pub record Guided (t : Tables) (w : List ℕ) (g : Guide) : Type 0 where
+  pub aims : SideBySide t w g.aims.xs g.aims.ys
+  pub tree : Tree t.n w g.tree
 
 -- The memory holds the state s, and no estimate in it is above `aim`, the present one, as long as there is a site left to aim at. As long as all sites are left, each is
 -- the present one.
@@ -62,9 +64,9 @@ abbrev pub Shut : ℕ → ℕ → List ℕ → List ℕ → Type 0
 Shut n u w w' = (v : ℕ) → v < n → is_taken n w' v ≡ (eqb v u || is_taken n w v)
 
 -- u is open, and what is held of it tells whether it is a site
-pub record OpenSite (sites : List ℕ) (n s u : ℕ) (w : List ℕ) : Type 0 where
+pub record OpenSite (t : Tables) (u : ℕ) (w : List ℕ) : Type 0 where
   pub seen : 0 < get_or w u 0
-  pub told : eqb (get_or w (n + u) 0 % 2) 0 ≡ site_in sites s u
+  pub told : eqb (get_or w (t.n + u) 0 % 2) 0 ≡ site_in t u
 
 -- the open node u is taken
 abbrev pub Took : Tables → ℕ → List ℕ → List ℕ → Type 0
@@ -74,7 +76,7 @@ Took t u w w' =
 
 -- what is held of node v under its present estimate
 abbrev pub rival_at : Tables → List ℕ → ℕ → ℕ
-rival_at t w v = rival_of (line_to t.xs t.ys t.sites t.n t.s w v) (site_in t.sites t.s v)
+rival_at t w v = rival_of (line_to t w v) (site_in t v)
 
 -- whether the open node v is held under its present estimate, and the memory where it wasn't
 pub record Looked (t : Tables) (v : ℕ) (w w' : List ℕ) (r : Bool) : Type 0 where
@@ -99,7 +101,7 @@ abbrev pub Stays : Tables → List ℕ → List ℕ → Type 0
 Stays t w w' = (s : State) (from rest : List ℕ) (j : ℕ) → T (aimed (region_of t) s j) → Live t s from rest w → Live t s from rest w'
 
 -- r is the open node that goes next in whatever state the memory holds, if a site is left
-abbrev pub Chosen : Tables → Bool → List ℕ → Next → Type 0
+abbrev pub Chosen : Tables → Bool → List ℕ → Option ℕ → Type 0
 Chosen t missed w r =
     (s : State) (from rest : List ℕ) (j : ℕ) → T (aimed (region_of t) s j) → Told t missed s → Live t s from rest w
     → r ≡ next_of (choose (region_of t) (aim_of t) s)

@@ -1,53 +1,54 @@
-// A step of the taking rule, in the work memory: the search's start, a node chosen, and a node taken.
+// A step of the taking rule, in the work memory: the search's start, a node chosen, and a node
+// taken.
+//
+// The memory stays a lent slice, as memory's own functions take it.
 #![tactic(auto)]
 
 ghost use Rattle.std.specs.Prelude.{◌≡◌, false, ◌+◌, ◌*◌, ◌%◌, ◌≤◌, ◌<◌, eqb, length, get_or, drop, replicate};
-ghost use Rattle.meaning.specs.Region.{tables, region_of};
+ghost use Rattle.meaning.specs.Region.{tables_of, region_of};
 ghost use Rattle.meaning.specs.Taking.{start as start_of};
 ghost use Rattle.memory.specs.Memory.{SiteTold, is_taken};
-ghost use Rattle.memory.specs.Aim.{Ground, Aims, SameTaken};
-ghost use Rattle.memory.specs.Tree.{Tree, Bare, SameKeys};
-ghost use Rattle.taking.specs.Ways.{Arcs, Bounded, Linked};
-ghost use Rattle.taking.specs.Steps.{places, Live, Arrived, Reached, Relaxed, SameLens, Shut, Closed, OpenSite, Took, Looked, Aiming, Stays, Chosen};
+ghost use Rattle.memory.specs.Aim.{SameTaken};
+ghost use Rattle.memory.specs.Tree.{Tree, SameKeys};
+ghost use Rattle.taking.specs.Ways.{Bounded};
+ghost use Rattle.taking.specs.Steps.{Guided, Live, Arrived, Reached, Relaxed, SameLens, Shut, Closed, OpenSite, Took, Looked, Aiming, Stays, Chosen};
 
-pub use chain::link;
-use memory::Next;
+use memory::{Aims, Region, Winners};
+pub use network::Network;
 
-mod chain;
+mod network;
+
+// What leads to the next node, beside the work memory: the sites that are left, and the tree of the
+// open nodes.
+#[derive(Drop)]
+pub struct Guide {
+    pub aims: Aims,
+    pub tree: Winners,
+}
 
 // The search starts with the query node open at length 0, and all sites are aimed at.
-pub fn start(
-    xs: &[i32],
-    ys: &[i32],
-    sites: &[u16],
-    n: usize,
-    s: usize,
-    q: usize,
-    ax: &mut [i32],
-    ay: &mut [i32],
-    work: &mut [u32],
-    tree: &mut [u64],
-)
-    requires n_in_bounds { (4 * n ≤ length work.old) × ((n ≤ 1024) × (q < n)) }
-    requires s_in_bounds { (s ≤ length ax.old) × (s ≤ length ay.old) }
-    requires ground { Ground xs.now ys.now sites.now n s }
-    requires bare { Bare n tree.old }
-    ensures tree { Tree n work.new tree.new }
-    ensures aims { Aims xs.now ys.now sites.now n s work.new ax.new ay.new }
-    ensures live { Live (places xs.now ys.now sites.now n s) (start_of (region_of (places xs.now ys.now sites.now n s)) q)
-        (replicate n 0) (drop (4 * n) work.old) work.new }
+pub fn start(r: &Region, work: &mut [u32], q: usize) -> Guide
+    requires { (4 * r.now.tables.n ≤ length work.old) × (q < r.now.tables.n) }
+    ensures guided { Guided (tables_of r.now.tables) work.new result }
+    ensures live { Live (tables_of r.now.tables) (start_of (region_of (tables_of r.now.tables)) q)
+        (replicate r.now.tables.n 0) (drop (4 * r.now.tables.n) work.old) work.new }
 {
+    let n = r.tables.n;
     memory::clear(work, n);
-    memory::gather(xs, ys, sites, work, n, s, ax, ay);
-    let rival = memory::aim(xs, ys, sites, work, n, s, ax, ay, q);
+    let aims = Aims::gather(r);
+    let mut tree = Winners::new();
+    let rival = memory::aim(r, work, &aims, q);
     work[q] = 1;
     work[n + q] = rival;
-    memory::replay(work, n, q, tree);
+    tree.replay(work, n, q);
+    Guide { aims, tree }
 }
 
 // Of two nodes that give h its length the lower one comes before it.
 fn lower(work: &mut [u32], n: usize, u: usize, h: usize)
-    requires { (4 * n ≤ length work.old) × ((n ≤ 1024) × ((u < n) × (h < n))) }
+    requires n_in_bounds { (4 * n ≤ length work.old) × (n ≤ 1024) }
+    requires u_lt_n { u < n }
+    requires h_lt_n { h < n }
     ensures same_keys { SameKeys n work.old work.new }
     ensures arrived { Arrived n u h (get_or work.old h 0) work.old work.new }
 {
@@ -59,10 +60,13 @@ fn lower(work: &mut [u32], n: usize, u: usize, h: usize)
 }
 
 // An open node has a shorter length by way of u.
-fn shorten(work: &mut [u32], n: usize, u: usize, h: usize, at: u32, tree: &mut [u64])
-    requires n_in_bounds { (4 * n ≤ length work.old) × ((n ≤ 1024) × ((u < n) × ((h < n) × (at < get_or work.old h 0)))) }
+fn shorten(work: &mut [u32], n: usize, tree: &mut Winners, u: usize, h: usize, at: u32)
+    requires n_in_bounds { (4 * n ≤ length work.old) × (n ≤ 1024) }
+    requires u_lt_n { u < n }
+    requires h_lt_n { h < n }
+    requires shorter { at < get_or work.old h 0 }
     requires tree { Tree n work.old tree.old }
-    ensures tree_2 { Tree n work.new tree.new }
+    ensures tree_after { Tree n work.new tree.new }
     ensures same_taken { SameTaken n work.old work.new }
     ensures arrived { Arrived n u h at work.old work.new }
 {
@@ -70,226 +74,129 @@ fn shorten(work: &mut [u32], n: usize, u: usize, h: usize, at: u32, tree: &mut [
     if is_open {
         work[h] = at;
         work[n + n + h] = (u + 1) as u32;
-        memory::replay(work, n, h, tree);
+        tree.replay(work, n, h);
     }
 }
 
-// An arc of u reaches node h, at one more than the length: h is opened, or shortened, or u comes before it as the lower of two.
-fn reach(
-    xs: &[i32],
-    ys: &[i32],
-    sites: &[u16],
-    n: usize,
-    s: usize,
-    u: usize,
-    h: usize,
-    at: u32,
-    ax: &[i32],
-    ay: &[i32],
-    work: &mut [u32],
-    tree: &mut [u64],
-)
-    requires n_in_bounds { (4 * n ≤ length work.old) × ((n ≤ 1024) × ((u < n) × (h < n))) }
-    requires ground { Ground xs.now ys.now sites.now n s }
-    requires aims { Aims xs.now ys.now sites.now n s work.old ax.now ay.now }
-    requires tree { Tree n work.old tree.old }
-    ensures tree_2 { Tree n work.new tree.new }
-    ensures same_taken { SameTaken n work.old work.new }
-    ensures reached { Reached (places xs.now ys.now sites.now n s) u h at work.old work.new }
+// An arc of u reaches node h, at one more than the length: h is opened, or shortened, or u comes
+// before it as the lower of two.
+fn reach(r: &Region, work: &mut [u32], guide: &mut Guide, u: usize, h: usize, at: u32)
+    requires n_in_bounds { 4 * r.now.tables.n ≤ length work.old }
+    requires u_lt_n { u < r.now.tables.n }
+    requires h_lt_n { h < r.now.tables.n }
+    requires guided { Guided (tables_of r.now.tables) work.old guide.old }
+    ensures guided_after { Guided (tables_of r.now.tables) work.new guide.new }
+    ensures reached { Reached (tables_of r.now.tables) u h at work.old work.new }
 {
+    let n = r.tables.n;
     let old = work[h];
     if old == 0 {
-        let rival = memory::aim(xs, ys, sites, work, n, s, ax, ay, h);
+        let rival = memory::aim(r, work, &guide.aims, h);
         work[h] = at;
         work[n + h] = rival;
         work[n + n + h] = (u + 1) as u32;
-        memory::replay(work, n, h, tree);
-        return;
-    }
-    if old == at {
+        guide.tree.replay(work, n, h);
+    } else if old == at {
         lower(work, n, u, h);
-        return;
+    } else if at < old {
+        shorten(work, n, &mut guide.tree, u, h, at);
     }
-    if old < at {
-        return;
-    }
-    shorten(work, n, u, h, at, tree);
 }
 
 // The heads of u's arcs are opened or shortened, in the order of the table.
-fn relax(
-    tails: &[u16],
-    heads: &[u16],
-    weights: &[u32],
-    xs: &[i32],
-    ys: &[i32],
-    sites: &[u16],
-    n: usize,
-    m: usize,
-    s: usize,
-    starts: &[u16],
-    nexts: &[u16],
-    u: usize,
-    ax: &[i32],
-    ay: &[i32],
-    work: &mut [u32],
-    tree: &mut [u64],
-)
-    requires n_in_bounds { (4 * n ≤ length work.old) × (u < n) }
-    requires ground { Ground xs.now ys.now sites.now n s }
-    requires arcs { Arcs tails.now heads.now weights.now n m }
-    requires linked { Linked tails.now n m starts.now nexts.now }
-    requires bounded { Bounded n 4000000000 work.old }
-    requires tree { Tree n work.old tree.old }
-    requires aims { Aims xs.now ys.now sites.now n s work.old ax.now ay.now }
-    ensures tree_2 { Tree n work.new tree.new }
-    ensures same_taken { SameTaken n work.old work.new }
-    ensures relaxed { Relaxed (tables tails.now heads.now weights.now xs.now ys.now sites.now n m s) u m
+fn relax(network: &Network, work: &mut [u32], guide: &mut Guide, u: usize)
+    requires n_in_bounds { (4 * network.now.region.tables.n ≤ length work.old)
+        × (u < network.now.region.tables.n) }
+    requires bounded { Bounded (tables_of network.now.region.tables) 4000000000 work.old }
+    requires guided { Guided (tables_of network.now.region.tables) work.old guide.old }
+    ensures guided_after { Guided (tables_of network.now.region.tables) work.new guide.new }
+    ensures relaxed { Relaxed (tables_of network.now.region.tables) u network.now.region.tables.m
         work.old work.new }
 {
+    let r = &network.region;
     let from = work[u];
-    let mut next = starts[u] as usize;
-    while 0 < next {
-        let i = next - 1;
-        let head = heads[i] as usize;
-        reach(
-            xs,
-            ys,
-            sites,
-            n,
-            s,
-            u,
-            head - 1,
-            from + weights[i],
-            ax,
-            ay,
-            work,
-            tree,
-        );
-        next = nexts[i] as usize;
+    let mut arc = network.first(u);
+    while let Some(i) = arc {
+        let at = from + r.tables.weights[i];
+        reach(r, work, guide, u, network.head(i), at);
+        arc = network.next(i);
     }
 }
 
 // The open node u is marked as taken. The answer is whether it is a site.
-fn close(work: &mut [u32], n: usize, u: usize, tree: &mut [u64]) -> bool
-    requires n_in_bounds { (4 * n ≤ length work.old) × ((n ≤ 1024) × ((u < n) × (0 < get_or work.old u 0))) }
+fn close(work: &mut [u32], n: usize, tree: &mut Winners, u: usize) -> bool
+    requires n_in_bounds { (4 * n ≤ length work.old) × (n ≤ 1024) }
+    requires u_lt_n { u < n }
+    requires seen { 0 < get_or work.old u 0 }
     requires tree { Tree n work.old tree.old }
     ensures value { result ≡ eqb (get_or work.old (n + u) 0 % 2) 0 }
     ensures site_told { SiteTold n work.old u result }
-    ensures tree_2 { Tree n work.new tree.new }
+    ensures tree_after { Tree n work.new tree.new }
     ensures same_lens { SameLens n work.old work.new }
     ensures shut { Shut n u work.old work.new }
     ensures closed { Closed n u work.old work.new }
 {
     let site = memory::is_rival_site(work, n, u);
     work[n + u] = 0;
-    memory::replay(work, n, u, tree);
+    tree.replay(work, n, u);
     site
 }
 
 // The open node u is taken; a site is aimed at no longer. The answer is whether it is one.
-pub fn take(
-    tails: &[u16],
-    heads: &[u16],
-    weights: &[u32],
-    xs: &[i32],
-    ys: &[i32],
-    sites: &[u16],
-    n: usize,
-    m: usize,
-    s: usize,
-    starts: &[u16],
-    nexts: &[u16],
-    u: usize,
-    ax: &mut [i32],
-    ay: &[i32],
-    work: &mut [u32],
-    tree: &mut [u64],
-) -> bool
-    requires n_in_bounds { (4 * n ≤ length work.old) × (u < n) }
-    requires ground { Ground xs.now ys.now sites.now n s }
-    requires arcs { Arcs tails.now heads.now weights.now n m }
-    requires linked { Linked tails.now n m starts.now nexts.now }
-    requires bounded { Bounded n 4000000000 work.old }
-    requires open_site { OpenSite sites.now n s u work.old }
-    requires tree { Tree n work.old tree.old }
-    requires aims { Aims xs.now ys.now sites.now n s work.old ax.old ay.now }
-    ensures site_told { SiteTold n work.old u result }
-    ensures tree_2 { Tree n work.new tree.new }
-    ensures aims_2 { Aims xs.now ys.now sites.now n s work.new ax.new ay.now }
-    ensures took { Took (tables tails.now heads.now weights.now xs.now ys.now sites.now n m s) u
-        work.old work.new }
+pub fn take(network: &Network, work: &mut [u32], guide: &mut Guide, u: usize) -> bool
+    requires n_in_bounds { (4 * network.now.region.tables.n ≤ length work.old)
+        × (u < network.now.region.tables.n) }
+    requires bounded { Bounded (tables_of network.now.region.tables) 4000000000 work.old }
+    requires open_site { OpenSite (tables_of network.now.region.tables) u work.old }
+    requires guided { Guided (tables_of network.now.region.tables) work.old guide.old }
+    ensures site_told { SiteTold network.now.region.tables.n work.old u result }
+    ensures guided_after { Guided (tables_of network.now.region.tables) work.new guide.new }
+    ensures took { Took (tables_of network.now.region.tables) u work.old work.new }
 {
-    let site = close(work, n, u, tree);
-    memory::forget(sites, s, u, site, ax);
-    relax(
-        tails, heads, weights, xs, ys, sites, n, m, s, starts, nexts, u, ax, ay, work, tree,
-    );
+    let r = &network.region;
+    let site = close(work, r.tables.n, &mut guide.tree, u);
+    if site {
+        guide.aims.forget(r, u);
+    }
+    relax(network, work, guide, u);
     site
 }
 
-// Whether the open node v has its present estimate. One that has risen is stored, and v is played again.
-fn fresh(
-    xs: &[i32],
-    ys: &[i32],
-    sites: &[u16],
-    n: usize,
-    s: usize,
-    v: usize,
-    ax: &[i32],
-    ay: &[i32],
-    work: &mut [u32],
-    tree: &mut [u64],
-) -> bool
-    requires n_in_bounds { (4 * n ≤ length work.old) × ((n ≤ 1024) × ((v < n) × (is_taken n work.old v ≡ false))) }
-    requires ground { Ground xs.now ys.now sites.now n s }
-    requires aims { Aims xs.now ys.now sites.now n s work.old ax.now ay.now }
-    requires tree { Tree n work.old tree.old }
-    ensures tree_2 { Tree n work.new tree.new }
-    ensures looked { Looked (places xs.now ys.now sites.now n s) v work.old work.new result }
+// Whether the open node v has its present estimate. One that has risen is stored, and v is played
+// again.
+fn fresh(r: &Region, work: &mut [u32], guide: &mut Guide, v: usize) -> bool
+    requires n_in_bounds { (4 * r.now.tables.n ≤ length work.old) × (v < r.now.tables.n) }
+    requires untaken { is_taken r.now.tables.n work.old v ≡ false }
+    requires guided { Guided (tables_of r.now.tables) work.old guide.old }
+    ensures guided_after { Guided (tables_of r.now.tables) work.new guide.new }
+    ensures same_taken { SameTaken r.now.tables.n work.old work.new }
+    ensures looked { Looked (tables_of r.now.tables) v work.old work.new result }
 {
-    let rival = memory::aim(xs, ys, sites, work, n, s, ax, ay, v);
+    let n = r.tables.n;
+    let rival = memory::aim(r, work, &guide.aims, v);
     if work[n + v] == rival {
         return true;
     }
     work[n + v] = rival;
-    memory::replay(work, n, v, tree);
+    guide.tree.replay(work, n, v);
     false
 }
 
-// The open node to be taken next. Taking sites only raises estimates, so one made earlier is at most the present one: only of the node at the tree's top it is made
-// anew, and only where a site has been taken (missed).
-pub fn choose(
-    xs: &[i32],
-    ys: &[i32],
-    sites: &[u16],
-    n: usize,
-    s: usize,
-    missed: bool,
-    ax: &[i32],
-    ay: &[i32],
-    work: &mut [u32],
-    tree: &mut [u64],
-) -> Next
-    requires le_n { (1 ≤ n) × (n ≤ 1024) }
-    requires ground { Ground xs.now ys.now sites.now n s }
-    requires aims { Aims xs.now ys.now sites.now n s work.old ax.now ay.now }
-    requires tree { Tree n work.old tree.old }
-    requires aiming { Aiming (places xs.now ys.now sites.now n s) work.old }
-    ensures tree_2 { Tree n work.new tree.new }
-    ensures same_taken { SameTaken n work.old work.new }
-    ensures stays { Stays (places xs.now ys.now sites.now n s) work.old work.new }
-    ensures chosen { Chosen (places xs.now ys.now sites.now n s) missed work.old result }
+// The open node to be taken next. Taking sites only raises estimates, so one made earlier is at
+// most the present one: only of the node at the tree's top it is made anew, and only where a site
+// has been taken (missed).
+pub fn choose(r: &Region, work: &mut [u32], guide: &mut Guide, missed: bool) -> Option<usize>
+    requires guided { Guided (tables_of r.now.tables) work.old guide.old }
+    requires aiming { Aiming (tables_of r.now.tables) work.old }
+    ensures guided_after { Guided (tables_of r.now.tables) work.new guide.new }
+    ensures same_taken { SameTaken r.now.tables.n work.old work.new }
+    ensures stays { Stays (tables_of r.now.tables) work.old work.new }
+    ensures chosen { Chosen (tables_of r.now.tables) missed work.old result }
 {
     loop {
-        let Next::Node(v) = memory::first_open(tree, n) else {
-            return Next::Nothing;
-        };
-        if !missed {
-            return Next::Node(v);
-        }
-        if fresh(xs, ys, sites, n, s, v, ax, ay, work, tree) {
-            return Next::Node(v);
+        let v = guide.tree.first_open(r.tables.n)?;
+        if !missed || fresh(r, work, guide, v) {
+            return Some(v);
         }
     }
 }

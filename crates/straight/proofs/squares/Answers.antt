@@ -1,14 +1,12 @@
 use native.Mathlib.Omega.{arith}
-use Rattle.straight.proofs.Gaps.{sum_is}
+use Rattle.straight.proofs.Laws.{sum_is, sum_small}
 use Rattle.straight.proofs.squares.Goals as goal
 
 pub overflow_add-result : goal.overflow_add-result
-overflow_add-result c =
-    let h = sum_is c.requires.placed c.requires.placed_2 (record { sfits = c.apart-arg-1.given }) (record { sfits = c.apart-arg-2-1.given })
-    (record { sfits = c.apart-arg-3-1.given }) (record { sfits = c.apart-arg-4-1.given }) c.apart.ensures c.apart-2.ensures in
-    omega (arith, h.1)
+overflow_add-result c = omega (arith, sum_small c.requires.from c.requires.to c.apart.ensures c.apart-2.ensures)
 
 pub returns : goal.returns
 returns c =
-    sum_is c.requires.placed c.requires.placed_2 (record { sfits = c.apart-arg-1.given }) (record { sfits = c.apart-arg-2-1.given })
-    (record { sfits = c.apart-arg-3-1.given }) (record { sfits = c.apart-arg-4-1.given }) c.apart.ensures c.apart-2.ensures
+    let p = c.requires.from in
+    let q = c.requires.to in
+    (sum_is p q c.apart.ensures c.apart-2.ensures, sum_small p q c.apart.ensures c.apart-2.ensures)

@@ -1,10 +1,10 @@
-use Rattle.meaning.specs.Region.{tables}
+use Rattle.meaning.specs.Region.{tables_of}
 use Rattle.taking.proofs.Following.{Following, left}
 use Rattle.taking.proofs.relax.Given as goal
 
--- The loop's invariant: the arcs before some arc have been followed, or are other nodes', and `next` is found from there on.
-abbrev pub invariant-loop-next : goal.invariant-loop-next
-invariant-loop-next l = Following (tables l.tails l.heads l.weights l.xs l.ys l.sites l.n l.m l.s) l.u l.initial.work l.initial.tree l.work l.tree l.next
+-- The loop's invariant: the arcs before some arc have been followed, or are other nodes', and `arc` is the next from there on.
+abbrev pub invariant-loop-arc : goal.invariant-loop-arc
+invariant-loop-arc l = Following (tables_of l.network.region.tables) l.u l.initial.work l.work l.guide l.arc
 
-abbrev pub decreases-loop-next : goal.decreases-loop-next
-decreases-loop-next l = left l.m l.next
+abbrev pub decreases-loop-arc : goal.decreases-loop-arc
+decreases-loop-arc l = left l.network.region.tables.m l.arc

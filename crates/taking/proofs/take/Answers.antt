@@ -1,21 +1,22 @@
-use mathlib.Core.Path.{◌∙◌}
-use Rattle.meaning.specs.Region.{Tables, tables}
-use Rattle.memory.specs.Aim.{Aims}
-use Rattle.memory.proofs.Aims.{aims_same, aims_shut}
+use mathlib.Core.Path.{sym, ◌∙◌}
+use Rattle.memory.proofs.Columns.{aims_shut, aims_kept}
 use Rattle.taking.proofs.Following.{took}
 use Rattle.taking.proofs.take.Goals as goal
+use Rattle.taking.proofs.take.Goals.{then-site, else-site}
 
-pub relax-requires-clause-aims : goal.relax-requires-clause-aims
-relax-requires-clause-aims c =
-    let shut : (Aims c.args.xs.now c.args.ys.now c.args.sites.now c.args.n c.args.s c.close-site.new.work c.forget.new.ax c.args.ay.now) = aims_shut c.requires.ground c.requires.aims c.close-site.ensures.shut (c.close-site.ensures.value ∙ c.requires.open_site.told) c.forget.ensures in
-    shut
-
-pub returns-clause-aims_2 : goal.returns-clause-aims_2
-returns-clause-aims_2 c =
-    let shut : (Aims c.args.xs.now c.args.ys.now c.args.sites.now c.args.n c.args.s c.close-site.new.work c.forget.new.ax c.args.ay.now) = aims_shut c.requires.ground c.requires.aims c.close-site.ensures.shut (c.close-site.ensures.value ∙ c.requires.open_site.told) c.forget.ensures in
-    aims_same c.requires.ground shut c.relax.ensures.same_taken
+pub relax-requires-clause-guided : goal.relax-requires-clause-guided
+relax-requires-clause-guided c =
+    let ground = c.args.network.now.region.sound.ground in
+    let aims = c.requires.guided.aims in
+    let shut = c.close-site.ensures.shut in
+    elim c.if-site.branch [
+      | then-site w ↦ rw w.guide-is (record { aims = rw w.forget.ensures.upward (aims_shut ground aims shut w.forget.ensures.across); tree = c.close-site.ensures.tree_after })
+      | else-site w ↦ rw w.guide-is (record {
+        aims = aims_kept ground aims c.args.u shut (sym c.requires.open_site.told ∙ sym c.close-site.ensures.value ∙ w.if-site.false);
+        tree = c.close-site.ensures.tree_after;
+      })
+    ]
 
 pub returns-clause-took : goal.returns-clause-took
 returns-clause-took c =
-    let lent : Tables = tables c.args.tails.now c.args.heads.now c.args.weights.now c.args.xs.now c.args.ys.now c.args.sites.now c.args.n c.args.m c.args.s in
-    took lent c.args.u c.args.work.now c.close-site.new.work c.relax.new.work c.close-site.ensures.closed c.relax.ensures.relaxed
+    took _ c.args.u c.args.work.now c.close-site.new.work c.relax.new.work c.close-site.ensures.closed c.relax.ensures.relaxed

@@ -1,12 +1,17 @@
-use mathlib.Core.Bool.{false}
-use mathlib.Core.Path.{◌≡◌, ap, ◌∙◌}
+use mathlib.Core.Path.{ap₂, ◌∙◌}
+use borrow.Author.Tests.{ne_eqb}
+use Rattle.meaning.specs.Region.{tables_of}
 use Rattle.memory.specs.Memory.{rival_of}
-use Rattle.memory.specs.Aim.{line_to}
 use Rattle.memory.proofs.Closest.{no_site}
 use Rattle.memory.proofs.estimate.aim.Goals as goal
+use Rattle.memory.proofs.estimate.aim.Goals.{then-line-eq0, else-line-eq0}
 
-pub returns-then-metres-ne0 : goal.returns-then-metres-ne0
-returns-then-metres-ne0 c =
-    let a = c.args in
-    let e : c.line_from-line.result.0 ≡ line_to a.xs.now a.ys.now a.sites.now a.n a.s a.work.now a.v = c.line_from-line.ensures.0 in
-    c.rival.ensures ∙ ap (λ l. rival_of l false) e ∙ ap (rival_of _) (no_site a.xs.now a.ys.now a.sites.now a.n a.work.now a.v c.requires.n_in_bounds.1.1 a.s (λ z. c.if-metres-ne0.true (e ∙ z)))
+pub returns : goal.returns
+returns c =
+    let e = c.line_from-line.ensures.0 in
+    c.rival.ensures
+    ∙ ap₂ rival_of e
+    (elim c.if-line-eq0.branch [
+      | then-line-eq0 w ↦ w.site-is ∙ w.is_site-site.ensures
+      | else-line-eq0 w ↦ w.site-is ∙ ne_eqb _ _ w.if-line-eq0.false ∙ no_site (tables_of c.args.r.now.tables) c.args.work.now c.args.v c.requires.untaken (λ z. w.if-line-eq0.false (e ∙ z))
+    ])

@@ -3,9 +3,4 @@ use Rattle.memory.proofs.Closest.{sum_fits}
 use Rattle.memory.proofs.estimate.closer.Goals as goal
 
 pub overflow_add-square : goal.overflow_add-square
-overflow_add-square c =
-    omega (
-      arith,
-      sum_fits c.requires.sized c.ranges.x c.ranges.y (record { sfits = c.apart-arg-1.given }) (record { sfits = c.apart-arg-2-1.given })
-          c.apart.ensures c.apart-2.ensures,
-    )
+overflow_add-square c = omega (arith, sum_fits c.requires c.apart.ensures c.apart-2.ensures)

@@ -1,16 +1,6 @@
-use native.Mathlib.Omega.{arith}
-use borrow.Author.Tests.{eq-eqb, ne_eqb}
-use borrow.Author.Rules.{rules}
-use Rattle.meaning.specs.Scan.{any}
-use Rattle.memory.proofs.Closest.{any_yes, any_none}
+use mathlib.Core.Path.{◌∙◌}
+use Rattle.memory.proofs.Closest.{site_among}
 use Rattle.memory.proofs.estimate.is_site.Goals as goal
 
-pub loop-j-init : goal.loop-j-init
-unfolding any
-loop-j-init c = search rules
-
-pub returns-then-node-v : goal.returns-then-node-v
-returns-then-node-v c = any_yes _ c.loop-j.j _ c.loop-j-test.true (eq-eqb _ _ c.if-node-v.true)
-
-pub loop-j-preserved : goal.loop-j-preserved
-loop-j-preserved c = (omega arith, any_none _ c.loop-j.j c.loop-j.invariant.1 (ne_eqb _ _ c.if-node-v.false))
+pub returns : goal.returns
+returns c = c.contains.ensures.value ∙ site_among c.args.r.now.sound.ground c.args.v

@@ -1,0 +1,8 @@
+use Rattle.meaning.specs.Region.{tables_of}
+use Rattle.memory.proofs.Columns.{Gathered}
+use Rattle.memory.proofs.estimate.Aims.gather.Given as goal
+
+abbrev pub invariant-loop-j : goal.invariant-loop-j
+invariant-loop-j l =
+    Gathered (tables_of l.r.tables) l.r.tables.xs.now l.j l.initial.aims.xs l.aims.xs
+    × Gathered (tables_of l.r.tables) l.r.tables.ys.now l.j l.initial.aims.ys l.aims.ys

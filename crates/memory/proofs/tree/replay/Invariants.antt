@@ -1,8 +1,0 @@
-use Rattle.memory.proofs.TreeReplay.{Going}
-use Rattle.memory.proofs.tree.replay.Given as goal
-
-abbrev pub invariant-loop-i : goal.invariant-loop-i
-invariant-loop-i l = Going l.n l.work l.initial.tree l.i l.tree
-
-abbrev pub decreases-loop-i : goal.decreases-loop-i
-decreases-loop-i l = l.i
