@@ -53,7 +53,6 @@ fn answer_code(answer: Result<Tally, Refusal>) -> u64
 
 // Reads a graph text.
 #[unsafe(no_mangle)]
-#[tactic(auto, using(meaning::proofs::Boundary::graph_fits))]
 pub extern "C" fn wick_read_graph(
     text: &[u8],
     tails: &mut [u16],
@@ -68,7 +67,6 @@ pub extern "C" fn wick_read_graph(
 
 // Reads a coordinate text, of a graph with that many nodes.
 #[unsafe(no_mangle)]
-#[tactic(auto, using(meaning::proofs::Boundary::coordinates_fits))]
 pub extern "C" fn wick_read_coordinates(
     text: &[u8],
     nodes: usize,
@@ -82,7 +80,6 @@ pub extern "C" fn wick_read_coordinates(
 
 // Reads a site text, of a graph with that many nodes.
 #[unsafe(no_mangle)]
-#[tactic(auto, using(meaning::proofs::Boundary::sites_fits))]
 pub extern "C" fn wick_read_sites(text: &[u8], nodes: usize, sites: &mut [u16]) -> u64
     ensures { SitesCalled base text.now nodes sites.old sites.new result }
 {
