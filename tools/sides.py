@@ -7,7 +7,26 @@ import subprocess
 import sys
 
 # what a function or a definition is called now, where another name, or another place in a type, stands for it
-MOVED = {}
+MOVED = {
+    "memory gather": "memory Aims::gather",
+    "memory forget": "memory Aims::forget",
+    "memory first_open": "memory Winners::first_open",
+    "memory replay": "memory Winners::replay",
+    "reading mark": "reading Marks::insert",
+    "reading marked": "reading Marks::contains",
+    "taking link": "taking Network::link",
+    "grammar arc_at": "grammar plain_line",
+    "grammar point_at": "grammar plain_line",
+    "grammar site_at": "grammar plain_line",
+    "memory Aims": "memory SideBySide",
+    "taking Arcs": "memory Arcs",
+    "meaning or_else": "meaning and_then",
+    "reading second_of": "reading row_of",
+    "reading third_of": "reading row_of",
+    "meaning else_first": "meaning then_first",
+    "meaning else_later": "meaning then_later",
+    "meaning else_zero": "meaning then_fine",
+}
 
 
 def git(*words):
@@ -37,22 +56,16 @@ def code(commit):
         while i < len(lines):
             line = lines[i]
             impl = re.match(r"impl(?:<[^>]*>)? (?:.* for )?(\w+)", line)
-            if impl:
+            if impl and " for " in line:
+                name, block = line.split("{")[0].strip(), [line]
+                while lines[i] != "}":
+                    i += 1
+                    if "ghost" in lines[i] and "ghost use" not in lines[i]:
+                        block.append(lines[i])
+                if len(block) > 1:
+                    found[f"{crate} {name}"] = ("impl", "\n".join(block + ["}"]))
+            elif impl:
                 of = impl.group(1) + "::"
-                if " for " in line and "Model" not in line:
-                    block = [line]
-                    while lines[i] != "}":
-                        i += 1
-                        if "ghost" in lines[i]:
-                            block.append(lines[i])
-                    found[f"{crate} {line.split('{')[0].strip()}"] = ("impl", "\n".join(block))
-                elif "Model" in line:
-                    block = [line]
-                    while lines[i] != "}":
-                        i += 1
-                        if lines[i].strip():
-                            block.append(lines[i])
-                    found[f"{crate} {line.split('{')[0].strip()}"] = ("impl", "\n".join(block))
             elif line == "}":
                 of = ""
             public = re.match(r"\s*pub(?:\(crate\))? (?:extern \"C\" )?(fn|struct|enum|const|type) (\w+)", line)
@@ -68,6 +81,7 @@ def code(commit):
                     while lines[i] != "}":
                         i += 1
                         block.append(lines[i])
+                    block = [b for b in block if not b.strip().startswith("//")]
                 found[f"{crate} {of}{name}"] = (kind, "\n".join(b for b in block if b.strip()))
             i += 1
     return found
