@@ -33,12 +33,13 @@ pub fn root(x: u64) -> u64
     guess
 }
 
-// The square of the difference of two coordinates.
+// The square of the difference of two coordinates. By way of an i64 the compiler squares it without
+// telling which of the two is larger: by abs_diff a whole search took a quarter longer.
 #[tactic(auto, unfolding(meaning::specs::Straight::gap))]
 pub fn apart(a: i32, b: i32) -> u64
     ensures { result ≡ gap a b * gap a b }
 {
-    let d = a.abs_diff(b) as u64;
+    let d = (i64::from(a) - i64::from(b)).unsigned_abs();
     d * d
 }
 
