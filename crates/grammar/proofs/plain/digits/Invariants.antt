@@ -1,6 +1,6 @@
 use Rattle.grammar.proofs.Lines.{Sofar}
 use Rattle.grammar.proofs.plain.digits.Given as goal
 
--- the bytes from at to i are digits, and value is theirs
+-- the bytes before i are digits, and value is theirs
 abbrev pub invariant-loop-i : goal.invariant-loop-i
-invariant-loop-i l = Sofar l.text l.at l.i l.value
+invariant-loop-i l = Sofar l.rest l.i l.value
