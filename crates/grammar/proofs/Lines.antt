@@ -1,5 +1,5 @@
 -- A line in its plain form, field by field: what stands there, and so what it says.
-use Rattle.std.proofs.Common.{◌≡◌, ℕ, zero, suc, ◌+◌, ◌-◌, ◌*◌, ◌^◌, ◌<◌, ◌≤◌, Bool, true, false, not, List, [], ◌∷◌, ◌++◌, length, get_or, take, drop, ℤ, pos, neg_ℤ, sym, refl, ap, ◌∙◌, append_assoc, append-nil, add-one, one-add, arith, length-append, length-take, drop-cons, ne_eqb, le-leb, Some, None}
+use Rattle.std.proofs.Common.{◌≡◌, ℕ, zero, suc, ◌+◌, ◌-◌, ◌*◌, ◌^◌, ◌<◌, ◌≤◌, Bool, true, false, not, List, [], ◌∷◌, ◌++◌, length, get_or, take, drop, ℤ, pos, neg_ℤ, sym, refl, ap, ◌∙◌, append_assoc, append-nil, add-one, one-add, arith, length-append, length-take, length-drop, drop-cons, ne_eqb, le-leb, Some, None}
 use native.Mathlib.Nat.{pow-le-pow_right, pow-suc}
 use Rattle.std.proofs.lemmas.List.{take-append-drop, take_more}
 use lib.Seq.{take-append_seam, drop-append_seam}
@@ -11,7 +11,7 @@ use Rattle.meaning.specs.declared.Kind.{Kind}
 use Rattle.meaning.specs.declared.Kind.TheVariants.{Graph, Coordinates, Sites}
 use Rattle.meaning.specs.declared.Line.TheVariants.{Data}
 use Rattle.text.specs.Scan.{run, in_line, is_ink}
-use Rattle.text.proofs.Laws.{fields_word, trim_other, number_digits}
+use Rattle.text.proofs.Laws.{fields_word, trim_other, number_digits, tail_all}
 use Rattle.grammar.specs.Plain.{Says, Above, Field, NumberRead, SignedRead, DigitsSaid}
 
 -- a test that all bytes above a number pass runs to where it fails
@@ -123,34 +123,35 @@ one_digit b d v l e =
     rw (le-leb 48 b (omega arith), le-leb b 57 (omega arith), k)
 
 module _ {text : List ℕ} {i v : ℕ} (s : Sofar text i v) where
-  sofar_small : i < 10 → v < 1000000000
-  sofar_small h = omega (arith, s.small, pow-le-pow_right {n = 10} (omega arith) {i = i} {j = 9} (omega arith))
+  sofar_small : i ≤ 9 → v < 1000000000
+  sofar_small h = omega (arith, s.small, pow-le-pow_right {n = 10} (omega arith) {i = i} {j = 9} h)
 
-  module _ (h : i < length text) where
-    pub sofar_more : (d : ℕ) → d ≤ 9 → get_or text i 0 ≡ d + 48 → Sofar text (i + 1) (v * 10 + d)
-    sofar_more d l e = record {
-      value = rw (take_more text i 0 h)
-        (digits_append (take i text) (get_or text i 0 ∷ []) 0 v s.value ∙ one_digit (get_or text i 0) d v l e);
-      small = rw (add-one, pow-suc 10 i) (omega (arith, s.small));
-      inks = rw (take_more text i 0 h)
-        (above_append 32 32 (omega arith) (take i text) (get_or text i 0 ∷ []) s.inks (omega arith, tt));
-    }
+  pub sofar_more : (d : ℕ) → i < length text → d ≤ 9 → get_or text i 0 ≡ d + 48 → Sofar text (i + 1) (v * 10 + d)
+  sofar_more d h l e = record {
+    value = rw (take_more text i 0 h)
+      (digits_append (take i text) (get_or text i 0 ∷ []) 0 v s.value ∙ one_digit (get_or text i 0) d v l e);
+    small = rw (add-one, pow-suc 10 i) (omega (arith, s.small));
+    inks = rw (take_more text i 0 h)
+      (above_append 32 32 (omega arith) (take i text) (get_or text i 0 ∷ []) s.inks (omega arith, tt));
+  }
 
-    pub sofar_ended : {end : ℕ} → i < 10 → get_or text i 0 ≡ end → (i ≡ 0 → ⊥) → DigitsSaid text end v (drop (i + 1) text)
-    sofar_ended few e some =
-        let n : length (take i text) ≡ i = omega (arith, length-take i text) in
-        record {
-          small = sofar_small few;
-          said = record {
-            field = take i text;
-            here = record {
-              stands = sym (take-append-drop i text) ∙ rw (add-one, drop-cons text i 0 h, e);
-              some = omega arith;
-              inks = s.inks;
-            };
-            known = number_digits (take i text) (omega arith) (omega arith) ∙ s.value;
+  -- the number ends where another byte stands
+  pub sofar_ended : {end : ℕ} {after : List ℕ} → after ≡ drop i text → i ≤ 9 → 0 < i → 0 < length after → get_or after 0 0 ≡ end
+      → DigitsSaid text end v (take (length after - 1) (drop 1 after))
+  sofar_ended {end} {after} e few some more is =
+      let n : length (take i text) ≡ i = omega (arith, length-take i text, length-drop i text, ap length e) in
+      rw (tail_all after 1) record {
+        small = sofar_small few;
+        said = record {
+          field = take i text;
+          here = record {
+            stands = sym (take-append-drop i text) ∙ ap (λ (l : List ℕ). take i text ++ l) (sym e ∙ drop-cons after 0 0 more ∙ rw is);
+            some = omega arith;
+            inks = s.inks;
           };
-        }
+          known = number_digits (take i text) (omega arith) (omega arith) ∙ s.value;
+        };
+      }
 
 -- a minus sign, and a number behind it
 pub signed_minus : {text tail rest : List ℕ} {end v : ℕ} → text ≡ 45 ∷ tail → NumberRead tail end v rest

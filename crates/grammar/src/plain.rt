@@ -11,22 +11,22 @@ use meaning::{Entry, Kind};
 fn digits(rest: &[u8], end: u8) -> Option<(usize, &[u8])>
     ensures { IfSome result (λ n. DigitsSaid rest.now end n.0 n.1.now) }
 {
-    // Ten digits would be too many.
-    let most = rest.len().min(10);
+    let most = rest.len().min(9);
+    let mut len = 0;
     let mut value = 0;
-    for i in 0..most {
-        let byte = rest[i];
+    for &byte in &rest[..most] {
         let digit = byte.wrapping_sub(b'0');
         let ends = 9 < digit;
         if ends {
-            if byte != end || i == 0 {
-                return None;
-            }
-            return Some((value, &rest[i + 1..]));
+            break;
         }
         value = value * 10 + usize::from(digit);
+        len += 1;
     }
-    None
+    match &rest[len..] {
+        [byte, rest @ ..] if *byte == end && 0 < len => Some((value, rest)),
+        _ => None,
+    }
 }
 
 // The same, with or without a minus sign before the digits.
