@@ -1,5 +1,5 @@
 -- A line in its plain form, field by field: what stands there, and so what it says.
-use Rattle.std.proofs.Common.{◌≡◌, ℕ, zero, suc, ◌+◌, ◌-◌, ◌*◌, ◌^◌, ◌<◌, ◌≤◌, Bool, true, false, not, List, [], ◌∷◌, ◌++◌, length, get_or, take, drop, ℤ, pos, neg_ℤ, sym, refl, ap, ◌∙◌, append_assoc, append-nil, add-one, one-add, arith, length-append, length-take, length-drop, drop-cons, ne_eqb, le-leb, Some, None}
+use Rattle.std.proofs.Common.{◌≡◌, ℕ, zero, suc, ◌+◌, ◌-◌, ◌*◌, ◌^◌, ◌<◌, ◌≤◌, Bool, true, false, not, List, [], ◌∷◌, ◌++◌, length, get_or, take, drop, ℤ, pos, neg_ℤ, sym, refl, ap, ◌∙◌, append_assoc, append-nil, add-one, one-add, arith, length-take, length-drop, drop-cons, ne_eqb, le-leb, Some, None}
 use native.Mathlib.Nat.{pow-le-pow_right, pow-suc}
 use Rattle.std.proofs.lemmas.List.{take-append-drop, take_more}
 use lib.Seq.{take-append_seam, drop-append_seam}
@@ -129,10 +129,10 @@ module _ {text : List ℕ} {i v : ℕ} (s : Sofar text i v) where
   pub sofar_more : (d : ℕ) → i < length text → d ≤ 9 → get_or text i 0 ≡ d + 48 → Sofar text (i + 1) (v * 10 + d)
   sofar_more d h l e = record {
     value = rw (take_more text i 0 h)
-      (digits_append (take i text) (get_or text i 0 ∷ []) 0 v s.value ∙ one_digit (get_or text i 0) d v l e);
+        (digits_append (take i text) (get_or text i 0 ∷ []) 0 v s.value ∙ one_digit (get_or text i 0) d v l e);
     small = rw (add-one, pow-suc 10 i) (omega (arith, s.small));
     inks = rw (take_more text i 0 h)
-      (above_append 32 32 (omega arith) (take i text) (get_or text i 0 ∷ []) s.inks (omega arith, tt));
+        (above_append 32 32 (omega arith) (take i text) (get_or text i 0 ∷ []) s.inks (omega arith, tt));
   }
 
   -- the number ends where another byte stands

@@ -84,8 +84,8 @@ fn site(line: &[u8]) -> Option<(Entry, &[u8])>
     Some((Entry::Site { node }, rest))
 }
 
-// What the data line that the text of that kind starts with says, if it is plain, and the text
-// after it.
+// What the first line of a text of that kind says, if it is a plain data line, and the text after
+// it.
 pub fn plain_line(kind: Kind, text: &[u8]) -> Option<(Entry, &[u8])>
     ensures { IfSome result (λ p. Says kind text.now p.0 p.1.now) }
 {

@@ -1,4 +1,4 @@
-use Rattle.std.proofs.Common.{arith, ◌≡◌, ◌<◌, ◌≤◌, ℕ, get_or, take, length, length-take, get_or-take}
+use Rattle.std.proofs.Common.{arith, ◌≡◌, length-take, get_or-take}
 use Rattle.text.proofs.Laws.{tail_all}
 use Rattle.grammar.proofs.Lines.{sofar_more, sofar_ended}
 use Rattle.grammar.proofs.plain.digits.Goals as goal
@@ -11,7 +11,7 @@ loop-byte-preserved c =
     record {
       len_is = omega arith;
       sofar = sofar_more c.loop-byte.invariant.sofar c.from.result (omega arith)
-        (omega (arith, c.from.ensures)) (rw len (omega (arith, c.from.ensures)));
+          (omega (arith, c.from.ensures)) (rw len (omega (arith, c.from.ensures)));
     }
 
 pub returns-in-len1-up : goal.returns-in-len1-up
