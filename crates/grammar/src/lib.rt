@@ -9,7 +9,7 @@ ghost use Rattle.meaning.specs.declared.Kind.TheVariants.{Graph, Coordinates, Si
 ghost use Rattle.grammar.specs.Fields.{IsNext, IsLast, problem_line, data_line};
 
 use meaning::{Counts, Entry, Kind, Line};
-pub use plain::{Plain, plain_at};
+pub use plain::plain_line;
 
 mod plain;
 

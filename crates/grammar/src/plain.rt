@@ -1,140 +1,97 @@
 // Data lines in their plain form, read in one go: the word, one space, the numbers with one space
 // between them, LF. What isn't plain is left to `line_of`.
-ghost use Rattle.std.specs.Prelude.{◌≡◌, ◌<◌, ◌≤◌, length, IfSome};
-ghost use Rattle.grammar.specs.Plain.{Says, Starts, DigitsSaid, CoordinateSaid};
+ghost use Rattle.std.specs.Prelude.{◌≡◌, ◌∷◌, IfSome};
+ghost use Rattle.grammar.specs.Plain.{Says, DigitsSaid, SignedRead};
 ghost use Rattle.meaning.specs.declared.Kind.TheVariants.{Graph, Coordinates, Sites};
 
 use meaning::{Entry, Kind};
 
-// What a plain line says, and where the next line starts.
-#[derive(Clone, Copy)]
-pub struct Plain {
-    pub entry: Entry,
-    pub next: usize,
-}
-
-// A number that was read, and where what follows it starts.
-#[derive(Clone, Copy)]
-struct Field<T> {
-    value: T,
-    next: usize,
-}
-
-// One to nine digits, and the byte `end` after them.
+// The value of one to nine digits, and what follows the byte `end` after them.
 #[inline]
-fn digits(text: &[u8], at: usize, end: u8) -> Option<Field<usize>>
-    requires { at ≤ length text.now }
-    ensures { IfSome result (λ f. DigitsSaid text.now at end f.value f.next) }
+fn digits(rest: &[u8], end: u8) -> Option<(usize, &[u8])>
+    ensures { IfSome result (λ n. DigitsSaid rest.now end n.0 n.1.now) }
 {
-    // Ten digits would be too many.
-    let most = text.len().min(at + 10);
+    let most = rest.len().min(9);
+    let mut len = 0;
     let mut value = 0;
-    for i in at..most {
-        let byte = text[i];
+    for &byte in &rest[..most] {
         let digit = byte.wrapping_sub(b'0');
         let ends = 9 < digit;
         if ends {
-            if byte != end || i == at {
-                return None;
-            }
-            return Some(Field { value, next: i + 1 });
+            break;
         }
         value = value * 10 + usize::from(digit);
+        len += 1;
     }
-    None
+    match &rest[len..] {
+        [byte, rest @ ..] if *byte == end && 0 < len => Some((value, rest)),
+        _ => None,
+    }
 }
 
 // The same, with or without a minus sign before the digits.
 #[inline]
-fn coordinate(text: &[u8], at: usize, end: u8) -> Option<Field<i32>>
-    requires { at ≤ length text.now }
-    ensures { IfSome result (λ f. CoordinateSaid text.now at end f.value f.next) }
+fn coordinate(rest: &[u8], end: u8) -> Option<(i32, &[u8])>
+    ensures { IfSome result (λ n. SignedRead rest.now end n.0 n.1.now) }
 {
-    if let [b'-', ..] = &text[at..] {
-        let size = digits(text, at + 1, end)?;
-        return Some(Field {
-            value: -(size.value as i32),
-            next: size.next,
-        });
+    if let [b'-', rest @ ..] = rest {
+        let (size, rest) = digits(rest, end)?;
+        return Some((-(size as i32), rest));
     }
-    let size = digits(text, at, end)?;
-    Some(Field {
-        value: size.value as i32,
-        next: size.next,
-    })
+    let (size, rest) = digits(rest, end)?;
+    Some((size as i32, rest))
 }
 
-// Where the numbers of a line start, if the word w and a space stand before them.
+// The numbers of a line, if the word w and a space stand before them.
 #[inline]
-fn numbers(text: &[u8], at: usize, w: u8) -> Option<usize>
-    requires { at ≤ length text.now }
-    ensures { IfSome result (Starts text.now at w) }
+fn numbers(line: &[u8], w: u8) -> Option<&[u8]>
+    ensures { IfSome result (λ rest. line.now ≡ w ∷ 32 ∷ rest.now) }
 {
-    match &text[at..] {
-        [first, b' ', ..] if *first == w => Some(at + 2),
+    match line {
+        [first, b' ', rest @ ..] if *first == w => Some(rest),
         _ => None,
     }
 }
 
 // a U V W
-fn arc_at(text: &[u8], at: usize) -> Option<Plain>
-    requires { at ≤ length text.now }
-    ensures { IfSome result (λ p. Says Graph text.now at p.entry p.next) }
+fn arc(line: &[u8]) -> Option<(Entry, &[u8])>
+    ensures { IfSome result (λ p. Says Graph line.now p.0 p.1.now) }
 {
-    let from = numbers(text, at, b'a')?;
-    let tail = digits(text, from, b' ')?;
-    let head = digits(text, tail.next, b' ')?;
-    let weight = digits(text, head.next, b'\n')?;
-    Some(Plain {
-        entry: Entry::Arc {
-            tail: tail.value,
-            head: head.value,
-            weight: weight.value,
-        },
-        next: weight.next,
-    })
+    let rest = numbers(line, b'a')?;
+    let (tail, rest) = digits(rest, b' ')?;
+    let (head, rest) = digits(rest, b' ')?;
+    let (weight, rest) = digits(rest, b'\n')?;
+    Some((Entry::Arc { tail, head, weight }, rest))
 }
 
 // v ID X Y
-fn point_at(text: &[u8], at: usize) -> Option<Plain>
-    requires { at ≤ length text.now }
-    ensures { IfSome result (λ p. Says Coordinates text.now at p.entry p.next) }
+fn point(line: &[u8]) -> Option<(Entry, &[u8])>
+    ensures { IfSome result (λ p. Says Coordinates line.now p.0 p.1.now) }
 {
-    let from = numbers(text, at, b'v')?;
-    let node = digits(text, from, b' ')?;
-    let x = coordinate(text, node.next, b' ')?;
-    let y = coordinate(text, x.next, b'\n')?;
-    Some(Plain {
-        entry: Entry::Point {
-            node: node.value,
-            x: x.value,
-            y: y.value,
-        },
-        next: y.next,
-    })
+    let rest = numbers(line, b'v')?;
+    let (node, rest) = digits(rest, b' ')?;
+    let (x, rest) = coordinate(rest, b' ')?;
+    let (y, rest) = coordinate(rest, b'\n')?;
+    Some((Entry::Point { node, x, y }, rest))
 }
 
 // s ID
-fn site_at(text: &[u8], at: usize) -> Option<Plain>
-    requires { at ≤ length text.now }
-    ensures { IfSome result (λ p. Says Sites text.now at p.entry p.next) }
+fn site(line: &[u8]) -> Option<(Entry, &[u8])>
+    ensures { IfSome result (λ p. Says Sites line.now p.0 p.1.now) }
 {
-    let from = numbers(text, at, b's')?;
-    let node = digits(text, from, b'\n')?;
-    Some(Plain {
-        entry: Entry::Site { node: node.value },
-        next: node.next,
-    })
+    let rest = numbers(line, b's')?;
+    let (node, rest) = digits(rest, b'\n')?;
+    Some((Entry::Site { node }, rest))
 }
 
-// What the data line of a text of that kind that starts at a position says, if it is plain.
-pub fn plain_at(kind: Kind, text: &[u8], at: usize) -> Option<Plain>
-    requires { at ≤ length text.now }
-    ensures { IfSome result (λ p. Says kind text.now at p.entry p.next) }
+// What the first line of a text of that kind says, if it is a plain data line, and the text after
+// it.
+pub fn plain_line(kind: Kind, text: &[u8]) -> Option<(Entry, &[u8])>
+    ensures { IfSome result (λ p. Says kind text.now p.0 p.1.now) }
 {
     match kind {
-        Kind::Graph => arc_at(text, at),
-        Kind::Coordinates => point_at(text, at),
-        Kind::Sites => site_at(text, at),
+        Kind::Graph => arc(text),
+        Kind::Coordinates => point(text),
+        Kind::Sites => site(text),
     }
 }

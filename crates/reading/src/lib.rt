@@ -197,10 +197,10 @@ fn said_at(kind: Kind, given: usize, text: &[u8], at: usize) -> Said
     requires { at ≤ length text.now }
     ensures { result ≡ said_at kind given text.now at }
 {
-    if let Some(plain) = grammar::plain_at(kind, text, at) {
+    if let Some((entry, rest)) = grammar::plain_line(kind, &text[at..]) {
         return Said {
-            line: Line::Data(plain.entry),
-            next: plain.next,
+            line: Line::Data(entry),
+            next: text.len() - rest.len(),
         };
     }
     match text::line_at(text, at) {
