@@ -116,7 +116,7 @@ impl Case {
     }
 }
 
-// A digest of what came before and one value more.
+// A digest of what came before and one value more. Crate cases, a program too, has the same line.
 fn mixed(sum: u64, value: u64) -> u64 {
     (sum % 1000003 * 31 + value % 1000003) % 1000003
 }
@@ -162,10 +162,7 @@ fn tell(
             }
             Ok(())
         }
-        Err(Refusal { fault, place }) => {
-            let number = usize::from(fault);
-            print!(rt; "x {number} {place}")
-        }
+        Err(refusal) => print!(rt; "x {refusal}"),
     }
 }
 

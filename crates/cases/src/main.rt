@@ -17,10 +17,7 @@ fn size(field: &[u8]) -> usize {
 fn tell(rt: &impl Print, answer: Result<Counts, Refusal>) -> io::Result<()> {
     match answer {
         Ok(Counts { nodes, rows }) => print!(rt; "= {nodes} {rows}"),
-        Err(Refusal { fault, place }) => {
-            let number = usize::from(fault);
-            print!(rt; "x {number} {place}")
-        }
+        Err(refusal) => print!(rt; "x {refusal}"),
     }
 }
 

@@ -18,7 +18,9 @@ pub struct Limits {
     pub k: usize,
 }
 
-// The largest N, M and S, by which rooms are measured that any region fits.
+// The largest size of a text, N, M and S, by which rooms are measured that any of them fits.
+pub const TEXT_MOST: usize = 65536;
+
 pub const NODES_MOST: usize = 1024;
 
 pub const ARCS_MOST: usize = 4096;
@@ -30,7 +32,7 @@ pub fn base() -> Limits
     ensures { result ≡ base_limits }
 {
     Limits {
-        text: 65536,
+        text: TEXT_MOST,
         nodes: NODES_MOST,
         arcs: ARCS_MOST,
         sites: SITES_MOST,
@@ -111,6 +113,15 @@ pub enum Kind {
     Graph,
     Coordinates,
     Sites,
+}
+
+// The paper's number and the place, as the programs print them.
+impl fmt::Display for Refusal {
+    fn fmt<W: fmt::Write>(&self, f: &mut fmt::Formatter<W>) -> fmt::Result {
+        let number = usize::from(self.fault);
+        let place = self.place;
+        write!(f, "{number} {place}")
+    }
 }
 
 // The counts of a problem line: the nodes, and the data lines to come. An accepted reading answers with them.

@@ -6,11 +6,11 @@
 ghost use Rattle.std.specs.Prelude.{◌≤◌, length, take};
 ghost use Rattle.std.specs.Io.KnownBytes.{Consumes};
 
-use meaning::{ARCS_MOST, Counts, NODES_MOST, PANEL_K, Refusal, SITES_MOST, Tables, Tally};
+use meaning::{ARCS_MOST, Counts, NODES_MOST, PANEL_K, Refusal, SITES_MOST, TEXT_MOST, Tables, Tally};
 use std::{fmt, io};
 
 // Room for a text: one byte more than a text may have, so that a longer one is refused and not cut.
-pub const TEXT_ROOM: usize = 65537;
+pub const TEXT_ROOM: usize = TEXT_MOST + 1;
 
 // Reads until the buffer is full, the input ends or a read fails, and answers how many bytes it put
 // at the start of the buffer.
@@ -170,9 +170,8 @@ pub fn print(
         Ok(()) => Ok(()),
         Err(Halt::Failed(error)) => Err(error),
         Err(Halt::Refused(refused)) => {
-            let Refusal { fault, place } = refused.refusal;
-            let number = usize::from(fault);
-            println!(rt; "x {number} {place}")?;
+            let refusal = refused.refusal;
+            println!(rt; "x {refusal}")?;
             if aloud {
                 eprintln!(rt; "{refused}")?;
             }

@@ -31,6 +31,7 @@ fn refused(refusal: Refusal) -> u64
     packed(usize::from(refusal.fault), refusal.place, 0)
 }
 
+// The two codes that follow are alike, but each promises the number of a definition of its own.
 fn read_code(answer: Result<Counts, Refusal>) -> u64
     requires { ReadFits answer }
     ensures { result ≡ read_code answer }
