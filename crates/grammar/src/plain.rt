@@ -11,6 +11,7 @@ use meaning::{Entry, Kind};
 fn digits(rest: &[u8], end: u8) -> Option<(usize, &[u8])>
     ensures { IfSome result (λ n. DigitsSaid rest.now end n.0 n.1.now) }
 {
+    // A number has nine digits at most.
     let most = rest.len().min(9);
     let mut len = 0;
     let mut value = 0;
