@@ -106,7 +106,7 @@ module _ {t : Tables} {q k : ℕ} (P : Passed t q k) {i : ℕ} {work listed leng
   from = parents_after (region_of t) (aim_of t) k (q - 1) i
 
   -- a length that has been seen, or 0
-  bounds : Bounded t 4000000000 w
+  bounds : Bounded t w
   bounds v b = go (get_or here.best v 0) refl
     where
       go : (x : ℕ) → get_or here.best v 0 ≡ x → get_or w v 0 ≤ 4000000000
@@ -276,7 +276,7 @@ module _ {t : Tables} {q k : ℕ} (P : Passed t q k) {i : ℕ} {work listed leng
   pub in_bounds : (4 * t.n ≤ length w') × (u < t.n)
   in_bounds = (ran_on.live.holds.room, (first_of P ran node).below)
 
-  pub bounded : Bounded t 4000000000 w'
+  pub bounded : Bounded t w'
   bounded = bounds P ran_on
 
   pub opened : OpenSite t u w'

@@ -6,11 +6,11 @@ use Rattle.search.proofs.search.Goals as goal
 use Rattle.search.proofs.search.Goals.{After-run-tally}
 
 pub invariant_of-link : goal.invariant_of-link
-invariant_of-link c = record { sound = sound (passes _ _ _ _ c.inspect.ensures c.in_ok-inspect.was) }
+invariant_of-link c = sound (passes _ _ _ _ c.inspect.ensures c.in_ok-inspect.was)
 
 pub run-tally-requires-clause-bare : goal.run-tally-requires-clause-bare
 run-tally-requires-clause-bare c =
-    c.new-guide.ensures _ c.link-network.result.region.sound.few_nodes
+    c.new-guide.ensures _ c.link-network.result.sound.few_nodes
 
 pub run-tally-requires-clause-room : goal.run-tally-requires-clause-room
 run-tally-requires-clause-room c =

@@ -6,7 +6,7 @@ use Rattle.taking.proofs.take.Goals.{then-site, else-site}
 
 pub relax-requires-clause-guided : goal.relax-requires-clause-guided
 relax-requires-clause-guided c =
-    let ground = c.args.network.now.region.sound.ground in
+    let ground = c.args.network.now.sound.ground in
     let aims = c.requires.guided.aims in
     let shut = c.close-site.ensures.shut in
     elim c.if-site.branch [
@@ -19,4 +19,4 @@ relax-requires-clause-guided c =
 
 pub returns-clause-took : goal.returns-clause-took
 returns-clause-took c =
-    took _ c.args.u c.args.work.now c.close-site.new.work c.relax.new.work c.close-site.ensures.closed c.relax.ensures.relaxed
+    took c.args.network.now.region c.args.u c.args.work.now c.close-site.new.work c.relax.new.work c.close-site.ensures.closed c.relax.ensures.relaxed
