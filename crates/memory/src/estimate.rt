@@ -1,7 +1,8 @@
 // The estimate of a node: the least straight line to a site that isn't taken.
 ghost use Rattle.std.specs.Prelude.{◌≡◌, false, List, ℕ, ◌*◌, ◌≤◌, ◌<◌, pos, length, get_or};
 ghost use Rattle.memory.specs.Memory.{rival_of, is_taken};
-ghost use Rattle.memory.specs.Aim.{site_in, line_to, SideBySide, NoneTaken, Forgotten, Sized, nearer, line_most};
+ghost use Rattle.memory.specs.Aim.{site_in, line_to, line_most, nearer};
+ghost use Rattle.memory.specs.Aim.{SideBySide, NoneTaken, Forgotten, Sized};
 
 use crate::Region;
 use meaning::SITES_MOST;

@@ -1,11 +1,13 @@
 // The work memory of a search: what stands where (specs/Memory, specs/Tree), the open node that
 // goes next, and the estimate of a node.
 //
-// The memory stays a lent slice, which each function takes beside n: a struct around it would hold
-// a `&mut`, whose ghost name every clause would have to carry.
+// The memory stays a lent slice, which each function takes beside n. A struct around it proves, but
+// holds a `&mut`: each function that writes would have to say that the struct keeps that slice, by
+// its ghost name, and its n, in place of the one fact that four quarters fit.
 #![tactic(auto)]
 
-ghost use Rattle.std.specs.Prelude.{◌≡◌, ◌+◌, ◌-◌, ◌*◌, ◌%◌, ◌≤◌, ◌<◌, eqb, length, get_or, replicate};
+ghost use Rattle.std.specs.Prelude.{◌≡◌, ◌+◌, ◌-◌, ◌*◌, ◌%◌, ◌≤◌, ◌<◌, eqb};
+ghost use Rattle.std.specs.Prelude.{length, get_or, replicate};
 ghost use Rattle.meaning.specs.Search.{over};
 ghost use Rattle.memory.specs.Memory.{is_taken, key_at, place_of, SiteTold};
 ghost use Rattle.memory.specs.Tree.{keys};

@@ -4,15 +4,17 @@
 // The memory stays a lent slice, as memory's own functions take it.
 #![tactic(auto)]
 
-ghost use Rattle.std.specs.Prelude.{◌≡◌, false, ℕ, ◌+◌, ◌*◌, ◌%◌, ◌≤◌, ◌<◌, eqb, length, get_or, drop, replicate};
-ghost use Rattle.meaning.specs.Region.{region_of};
+ghost use Rattle.std.specs.Prelude.{◌≡◌, false, ℕ, ◌+◌, ◌*◌, ◌%◌, ◌≤◌, ◌<◌, eqb};
+ghost use Rattle.std.specs.Prelude.{length, get_or, drop, replicate};
 ghost use Rattle.meaning.specs.Limits.{base};
+ghost use Rattle.meaning.specs.Region.{region_of};
 ghost use Rattle.meaning.specs.Taking.{start as start_of};
 ghost use Rattle.memory.specs.Memory.{SiteTold, is_taken};
 ghost use Rattle.memory.specs.Aim.{SameTaken};
 ghost use Rattle.memory.specs.Tree.{Tree, Bare, SameKeys};
 ghost use Rattle.taking.specs.Ways.{Bounded};
-ghost use Rattle.taking.specs.Steps.{Guided, Live, Arrived, Reached, Relaxed, SameLens, Shut, Closed, OpenSite, Took, Looked, Aiming, Stays, Chosen};
+ghost use Rattle.taking.specs.Steps.{Guided, Live, Arrived, Reached, Relaxed, SameLens, Shut};
+ghost use Rattle.taking.specs.Steps.{Closed, OpenSite, Took, Looked, Aiming, Stays, Chosen};
 
 use meaning::SITES_MOST;
 use memory::{Aims, Region, Winners};

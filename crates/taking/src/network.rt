@@ -29,7 +29,7 @@ impl Chains {
 }
 
 // A region whose arcs are linked. The chains are lent, for a small search is slower with a copy of
-// them.
+// them. What the checks have shown is said here again, for those who read the chains alone.
 #[derive(Drop)]
 pub struct Network<'a> {
     pub region: Region<'a>,
@@ -79,6 +79,7 @@ impl<'a> Network<'a> {
         r.tables.heads[i] as usize - 1
     }
 
+    // How much arc i weighs.
     pub(crate) fn weight(&self, i: usize) -> u32
         requires { i < self.now.region.m }
         ensures { result ≡ (region_of self.now.region).weight i }

@@ -22,4 +22,5 @@ loop-count-preserved c =
 pub returns : goal.returns
 returns c =
     let all : c.loop-count.count ≡ c.args.n = omega (arith, c.requires.linked.one) in
-    sym all ∙ walked_size c.loop-count.invariant.1 (λ g. omega (arith, g.fuel, c.loop-count.invariant.1.sum))
+    sym all ∙ walked_size c.loop-count.invariant.1
+    (λ g. omega (arith, g.fuel, c.loop-count.invariant.1.sum))

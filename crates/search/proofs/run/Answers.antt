@@ -36,16 +36,20 @@ pub list-sites-requires-clause-v_in_bounds : goal.list-sites-requires-clause-v_i
 list-sites-requires-clause-v_in_bounds c =
     let here = in_bounds c.requires.passed c.loop-u.invariant.ran c.in-Some.ensures.picked in
     let kept = c.take-site.auto.work in
-    (omega arith, here.1)
+    omega (arith, here.1)
 
-step : (c : After-list-sites) → Ran c.args.network.now.region c.args.query c.args.k (c.loop-u.taken + 1) c.args.work.now c.args.listed.now c.args.lengths.now
-    c.take-site.new.work c.list-sites.new.listed c.list-sites.new.lengths c.list-sites.result (c.loop-u.taken + 1)
+step : (c : After-list-sites)
+    → Ran c.args.network.now.region c.args.query c.args.k (c.loop-u.taken + 1) c.args.work.now
+    c.args.listed.now c.args.lengths.now
+    c.take-site.new.work c.list-sites.new.listed c.list-sites.new.lengths c.list-sites.result
+    (c.loop-u.taken + 1)
 step c =
     let picks = c.in-Some.ensures.picked in
     let wanted = picks.wanted in
     let listed : c.loop-u.sites < length c.args.listed.now = omega arith in
     let lengths : c.loop-u.sites < length c.args.lengths.now = omega arith in
-    stepped c.requires.passed c.loop-u.invariant.ran picks listed lengths c.take-site.ensures.site_told c.take-site.ensures.took c.list-sites.ensures
+    stepped c.requires.passed c.loop-u.invariant.ran picks listed lengths
+    c.take-site.ensures.site_told c.take-site.ensures.took c.list-sites.ensures
 
 pub overflow_add-taken : goal.overflow_add-taken
 overflow_add-taken c =
@@ -65,4 +69,5 @@ loop-u-preserved c = record {
 
 pub returns : goal.returns
 returns c =
-    stopped c.requires.passed c.loop-u.invariant.ran c.in_default.ensures.picked c.args.network.now.region.n (few_taken c.requires.passed c.loop-u.invariant.ran)
+    stopped c.requires.passed c.loop-u.invariant.ran c.in_default.ensures.picked
+    c.args.network.now.region.n (few_taken c.requires.passed c.loop-u.invariant.ran)

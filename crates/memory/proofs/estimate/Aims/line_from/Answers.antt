@@ -12,20 +12,27 @@ pub loop-j-preserved : goal.loop-j-preserved
 loop-j-preserved c =
     let l = c.loop-j in
     rw (← c.r.view_is)
-    (least_next c.r.invariant.ground (rw (← c.r.view_is) at c.requires.aims) c.args.v l.j (rw (← c.r.view_is) at c.requires.v_in_bounds) c.loop-j-test.true
-    (rw (← c.r.view_is) at l.invariant.0) (rw (← c.r.view_is) at l.invariant.1) c.closer-best.ensures)
+    (least_next c.r.invariant.ground (rw (← c.r.view_is) at c.requires.aims) c.args.v l.j
+    (rw (← c.r.view_is) at c.requires.v_in_bounds) c.loop-j-test.true
+    (rw (← c.r.view_is) at l.invariant.0) (rw (← c.r.view_is) at l.invariant.1)
+    c.closer-best.ensures)
 
 pub returns-then-best-eq-BEYOND : goal.returns-then-best-eq-BEYOND
 unfolding line_to
 returns-then-best-eq-BEYOND c =
     let l = c.loop-j in
-    let all : l.j ≡ c.args.r.now.s = rw (← c.r.view_is) (omega arith) in
-    (rw all at (line_none l.best _ l.invariant.0 l.invariant.1 c.if-best-eq-BEYOND.true), omega arith)
+    let all : l.j ≡ c.args.r.now.s = rw (← c.r.view_is) (omega arith) in (
+      rw all at (line_none l.best _ l.invariant.0 l.invariant.1 c.if-best-eq-BEYOND.true),
+      omega arith,
+    )
 
 pub overflow_cast-result : goal.overflow_cast-result
 overflow_cast-result c =
     let l = c.loop-j in
-    omega (arith, (line_found _ l.invariant.0 l.invariant.1 c.if-best-eq-BEYOND.false c.root.ensures).1)
+    omega (
+      arith,
+      (line_found _ l.invariant.0 l.invariant.1 c.if-best-eq-BEYOND.false c.root.ensures).1,
+    )
 
 pub returns : goal.returns
 unfolding line_to
