@@ -12,6 +12,7 @@ use lib.IntN.{ℤ, pos, nat_abs}
 use lib.ListN.{get_or, take}
 use Rattle.std.specs.List.{list_any}
 use Rattle.std.proofs.lemmas.List.Folds.{list_any_more}
+use Rattle.meaning.specs.Limits.{base}
 use Rattle.meaning.specs.Region.{Tables, x_at, y_at}
 use Rattle.meaning.specs.Scan.{any}
 use Rattle.meaning.specs.Straight.{gap, root, root_to, squares}
@@ -20,7 +21,7 @@ use Rattle.meaning.proofs.Scans.{any_is}
 use Rattle.straight.specs.Points.{farthest}
 use Rattle.straight.proofs.Laws.{root_small, square_small, square_large, squares_small, back, back_near, Square, square_back}
 use Rattle.memory.specs.Memory.{is_taken}
-use Rattle.memory.specs.Aim.{Ground, SideBySide, Sized, node_of, site_in, closer_of, least_to, line_to, far_off, nearer}
+use Rattle.memory.specs.Aim.{Ground, SideBySide, Sized, node_of, site_in, closer_of, least_to, line_to, line_most, far_off, nearer}
 use Rattle.memory.proofs.Columns.{site_below}
 
 -- ---- a node's number among those of the sites
@@ -48,7 +49,8 @@ module _ {t : Tables} (G : Ground t) (v : ℕ) where
 module _ {x y a b : ℤ} (S : Sized x y a b) {p q : ℕ} (e : Square p (back x) (back a)) (f : Square q (back y) (back b)) where
   sum_is : p + q ≡ gap x a * gap x a + gap y b * gap y b
   sum_is =
-      ap₂ ◌+◌ (square_back x a (omega (arith, S.near_x)) S.near_a e) (square_back y b (omega (arith, S.near_y)) S.near_b f)
+      ap₂ ◌+◌ (square_back x a (omega (arith, S.near_x)) (omega (arith, S.near_a)) e)
+      (square_back y b (omega (arith, S.near_y)) (omega (arith, S.near_b)) f)
 
   pub sum_fits : p + q ≤ 2880000000000000000
   sum_fits =
@@ -107,7 +109,7 @@ module _ {t : Tables} {w : List ℕ} {ax ay : List ℤ} (G : Ground t) (A : Side
         near_b = rw (A.upward j k) (omega (arith, q.y_near));
       }
     where
-      go : (gone : Bool) → nat_abs (x_at t node) ≤ 200000000 → nat_abs (cond gone far_off (x_at t node)) ≤ 1000000000
+      go : (gone : Bool) → nat_abs (x_at t node) ≤ base.coordinate → nat_abs (cond gone far_off (x_at t node)) ≤ nat_abs far_off
       go true h = omega arith
       go false h = omega arith
 
@@ -134,7 +136,9 @@ module _ {t : Tables} {w : List ℕ} {ax ay : List ℤ} (G : Ground t) (A : Side
       let m : square ≤ farthest = squares_small (G.points v l) (G.points node (site_below G j k)) in
       let x = back_near (x_at t v) (omega (arith, S.near_x)) in
       let y = back_near (y_at t v) (omega (arith, S.near_y)) in
-      rw (is, e, x, y, back_near (get_or ax j (pos 0)) S.near_a, back_near (get_or ay j (pos 0)) S.near_b, add-one, A.across j k, A.upward j k) (next_is h m (is_taken t.n w node), closer_small (is_taken t.n w node) square least m h)
+      let a = back_near (get_or ax j (pos 0)) (omega (arith, S.near_a)) in
+      let b = back_near (get_or ay j (pos 0)) (omega (arith, S.near_b)) in
+      rw (is, e, x, y, a, b, add-one, A.across j k, A.upward j k) (next_is h m (is_taken t.n w node), closer_small (is_taken t.n w node) square least m h)
 
 -- at the end: no site has been found, or the closest
 pub line_none : (best least : ℕ) → best ≡ square_of least → least ≤ suc farthest → best ≡ suc farthest → 0 ≡ root (least - 1)
@@ -143,7 +147,7 @@ line_none best zero e l f = refl
 line_none best (suc b) e l f = let h = square_suc b in absurd (omega arith)
 
 pub line_found : {best r : ℕ} (least : ℕ) → best ≡ square_of least → least ≤ suc farthest → (best ≡ suc farthest → ⊥) → r ≡ root best
-    → (r ≡ root (least - 1)) × (r ≤ 1000000000)
+    → (r ≡ root (least - 1)) × (r ≤ line_most)
 line_found zero e l z f = absurd (z e)
 line_found {best} {r} (suc b) e l z f =
     let h = square_suc b in

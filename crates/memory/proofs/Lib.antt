@@ -1,5 +1,7 @@
 -- what the memory holds, read from its entries
 pub mod Holds
+-- an entry that stands for a place
+pub mod Places
 -- the estimate is the taking rule's
 pub mod Lines
 -- what it holds after a write

@@ -9,7 +9,7 @@ use Rattle.meaning.specs.Limits.{base}
 use Rattle.memory.specs.Tree.{Tree, But, Bare, SameKeys, Elsewhere}
 
 -- at first
-pub bare_all : (n : ℕ) → n ≤ 1024 → Bare n (replicate (2 * base.nodes) 0)
+pub bare_all : (n : ℕ) → n ≤ base.nodes → Bare n (replicate (2 * base.nodes) 0)
 bare_all n l = record { room = omega arith; none = λ j h. get_or-replicate (2 * base.nodes) j 0 0 (omega arith) }
 
 pub tree_same : {n : ℕ} {w w' t : List ℕ} → Tree n w t → SameKeys n w w' → Tree n w' t

@@ -8,7 +8,7 @@ use lib.Dec.{T}
 use lib.ListN.{length, get_or, set, length-set}
 use lib.Seq.{get_or-set_same, get_or-set_other}
 use Rattle.memory.specs.Memory.{key_at}
-use Rattle.memory.specs.Tree.{open_at, rank_of, Tree, But, Ranked}
+use Rattle.memory.specs.Tree.{keys, open_at, rank_of, Tree, But, Ranked}
 
 -- the tree but for the place above i, as long as t₀
 pub record Going (n : ℕ) (w t₀ : List ℕ) (i : ℕ) (t : List ℕ) : Type 0 where
@@ -16,7 +16,7 @@ pub record Going (n : ℕ) (w t₀ : List ℕ) (i : ℕ) (t : List ℕ) : Type 0
   pub room : n + n ≤ length t
   pub low : 1 ≤ i
   pub high : i < n + n
-  pub near : (x : ℕ) → x < n → T (open_at n w x) → key_at n w x < 17179869184
+  pub near : (x : ℕ) → x < n → T (open_at n w x) → key_at n w x < keys
   pub leaves : (x : ℕ) → x < n → get_or t (n + x) 0 ≡ rank_of n w x
   pub settled : (j : ℕ) → 1 ≤ j → j < n → (j ≡ i / 2 → ⊥) → get_or t j 0 ≡ max (get_or t (2 * j) 0) (get_or t (2 * j + 1) 0)
 
@@ -34,7 +34,7 @@ going_starts {n} {v} {r} {w} {t} B R l = record {
     other : (j : ℕ) → (j ≡ n + v → ⊥) → get_or (set t (n + v) r) j 0 ≡ get_or t j 0
     other j = get_or-set_other t (n + v) j r 0
 
-    near : (x : ℕ) → x < n → Dec (x ≡ v) → T (open_at n w x) → key_at n w x < 17179869184
+    near : (x : ℕ) → x < n → Dec (x ≡ v) → T (open_at n w x) → key_at n w x < keys
     near x h (yes e) = rw e R.near
     near x h (no z) = B.near x h z
 

@@ -10,11 +10,12 @@ use native.Mathlib.Decide.{dec_lt, ℕ_discrete}
 use native.Mathlib.Omega.{arith}
 use lib.Dec.{T}
 use lib.ListN.{get_or}
+use Rattle.meaning.specs.Limits.{base}
 use Rattle.meaning.specs.Scan.{first}
 use Rattle.meaning.proofs.Bools.{T_true, true_T}
 use Rattle.meaning.proofs.Scans.{IsFirst, first_is}
 use Rattle.memory.specs.Memory.{key_at, next_of}
-use Rattle.memory.specs.Tree.{open_at, rank_of, Tree}
+use Rattle.memory.specs.Tree.{keys, numbers, open_at, rank_of, Tree}
 
 max_either : (a b : ℕ) → (max a b ≡ a) ⊎ (max a b ≡ b)
 max_either a b = go (dec_lt a b)
@@ -25,13 +26,13 @@ max_either a b = go (dec_lt a b)
 
 -- ranks order by key and then by number
 abbrev rank : ℕ → ℕ → ℕ
-rank k v = (17179869184 - k) * 65536 + (65535 - v)
+rank k v = (keys - k) * numbers + (numbers - 1 - v)
 
 -- v is first by key and then by number, and no more by rank: then x is v
-rank_first : (k v l x : ℕ) → k < 17179869184 → v < 65536 → x < 65536 → k ≤ l → (l ≤ k → v ≤ x) → rank k v ≤ rank l x → x ≡ v
+rank_first : (k v l x : ℕ) → k < keys → v < numbers → x < numbers → k ≤ l → (l ≤ k → v ≤ x) → rank k v ≤ rank l x → x ≡ v
 rank_first k v l x a b c d f h = let e : l ≤ k = omega arith in let g = f e in omega arith
 
-rank_number : (k v : ℕ) → v < 65536 → 65535 - rank k v % 65536 ≡ v
+rank_number : (k v : ℕ) → v < numbers → numbers - 1 - rank k v % numbers ≡ v
 rank_number k v b = omega arith
 
 module _ {n : ℕ} {w t : List ℕ} (I : Tree n w t) where
@@ -82,7 +83,7 @@ module _ {n : ℕ} {w t : List ℕ} (I : Tree n w t) where
       go true e h = true_T (open_at n w v) e
       go false e h = absurd (omega arith)
 
-  module _ (l : 1 ≤ n) (m : n ≤ 1024) where
+  module _ (l : 1 ≤ n) (m : n ≤ base.nodes) where
     -- the open node v has no more than what stands at the top
     top_least : (v : ℕ) → v < n → T (open_at n w v) → rank (key_at n w v) v ≤ get_or t 1 0
     top_least v h o = let c = climb (n + v) (n + v) (omega arith) (omega arith) (omega arith) in let e = I.leaves v h ∙ rank_open v o in omega arith
@@ -97,10 +98,10 @@ module _ {n : ℕ} {w t : List ℕ} (I : Tree n w t) where
             let c = top_least v h.below h.holds in
             absurd (omega arith)
 
-    pub top_node : (get_or t 1 0 ≡ 0 → ⊥) → Some (65535 - get_or t 1 0 % 65536) ≡ next_of (first (open_at n w) (key_at n w) n)
+    pub top_node : (get_or t 1 0 ≡ 0 → ⊥) → Some (numbers - 1 - get_or t 1 0 % numbers) ≡ next_of (first (open_at n w) (key_at n w) n)
     top_node z = go (from_leaf (n + n) 1 (omega arith) (omega arith) (omega arith)) (first (open_at n w) (key_at n w) n) (first_is (open_at n w) (key_at n w) n)
       where
-        go : Leaf 1 → (o : Option ℕ) → IsFirst (open_at n w) (key_at n w) n o → Some (65535 - get_or t 1 0 % 65536) ≡ next_of o
+        go : Leaf 1 → (o : Option ℕ) → IsFirst (open_at n w) (key_at n w) n o → Some (numbers - 1 - get_or t 1 0 % numbers) ≡ next_of o
         go (x, p, e) none h = absurd (h x p (above_none x (omega arith)))
         go (x, p, e) (some v) h =
             let b = h.below in

@@ -1,6 +1,7 @@
 -- The estimate, from the memory: of the squared distances to the sites that aren't taken the least
 -- is kept, and one root is taken.
 use Rattle.std.specs.Prelude.{Bool, false, cond, List, ◌≡◌, ℕ, zero, suc, ◌+◌, ◌-◌, ◌*◌, ◌≤◌, ◌<◌, eqb, ltb, ℤ, pos, nat_abs, length, get_or}
+use Rattle.meaning.specs.Limits.{base}
 use Rattle.meaning.specs.Region.{Tables, x_at, y_at}
 use Rattle.meaning.specs.Scan.{any}
 use Rattle.meaning.specs.Straight.{gap, root, squares}
@@ -37,6 +38,10 @@ least_to t w v (suc j) =
 unfoldable pub line_to : Tables → List ℕ → ℕ → ℕ
 line_to t w v = root (least_to t w v t.s - 1)
 
+-- no line between nodes is longer
+abbrev pub line_most : ℕ
+line_most = 1000000000
+
 -- ---- the sites side by side, in the code
 
 -- where a taken site is put: farther from any node than another node is
@@ -62,12 +67,12 @@ pub record Forgotten (t : Tables) (v : ℕ) (ax ax' : List ℤ) : Type 0 where
   pub size : length ax' ≡ length ax
   pub across : (j : ℕ) → j < t.s → get_or ax' j (pos 0) ≡ cond (eqb (node_of t j) v) far_off (get_or ax j (pos 0))
 
--- a node at x, y, and a site at a, b
+-- a node at x, y, and a site at a, b, which may be put far off
 pub record Sized (x y a b : ℤ) : Type 0 where
-  pub near_x : nat_abs x ≤ 200000000
-  pub near_y : nat_abs y ≤ 200000000
-  pub near_a : nat_abs a ≤ 1000000000
-  pub near_b : nat_abs b ≤ 1000000000
+  pub near_x : nat_abs x ≤ base.coordinate
+  pub near_y : nat_abs y ≤ base.coordinate
+  pub near_a : nat_abs a ≤ nat_abs far_off
+  pub near_b : nat_abs b ≤ nat_abs far_off
 
 -- the least square so far, with one more
 abbrev pub nearer : ℤ → ℤ → ℤ → ℤ → ℕ → ℕ

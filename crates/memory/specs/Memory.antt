@@ -3,7 +3,7 @@
 -- beside its length while it is open, and 0 while it isn't; entry n + n + v is the number of the
 -- node before it on the route, and 0 where there is none. The last quarter isn't used. The open
 -- nodes stand in a tree beside the memory (Tree).
-use Rattle.std.specs.Prelude.{Option, Some, None, Bool, not, cond, ◌&&◌, List, ◌≡◌, ℕ, suc, ◌+◌, ◌-◌, ◌*◌, ◌/◌, ◌%◌, ◌≤◌, ◌<◌, T, eqb, length, get_or, drop}
+use Rattle.std.specs.Prelude.{Option, Some, None, Bool, not, cond, ◌&&◌, List, ◌≡◌, ℕ, zero, suc, ◌+◌, ◌-◌, ◌*◌, ◌/◌, ◌%◌, ◌≤◌, ◌<◌, T, eqb, length, get_or, drop}
 use Rattle.std.proofs.Math.Option.{Option as Found, none, some}
 use Rattle.meaning.specs.Taking.{State, taken, is_open, total, bit}
 
@@ -24,6 +24,11 @@ key_at n w v = total (get_or w v 0 - 1) ((get_or w (n + v) 0 - 1) / 2) * 2 + (ge
 abbrev pub next_of : Found ℕ → Option ℕ
 next_of none = None
 next_of (some v) = Some v
+
+-- what an entry that is one more than a place stands for, where 0 stands for none
+abbrev pub place_of : ℕ → Option ℕ
+place_of zero = None
+place_of (suc v) = Some v
 
 -- The memory w holds the state s of a search, where `site` tells the sites, `line` is the estimate
 -- last made of each open node, `from` has the number of the node before each node, and `rest` is

@@ -9,25 +9,32 @@ use Rattle.memory.specs.Memory.{key_at, next_of}
 abbrev pub open_at : ℕ → List ℕ → ℕ → Bool
 open_at n w v = not (eqb (get_or w (n + v) 0) 0)
 
--- a lower key goes sooner, and among equal keys a lower number; no key is 17179869184 or above
+-- every key is below this, and every node's number below that
+abbrev pub keys : ℕ
+keys = 17179869184
+
+abbrev pub numbers : ℕ
+numbers = 65536
+
+-- a lower key goes sooner, and among equal keys a lower number
 abbrev pub rank_of : ℕ → List ℕ → ℕ → ℕ
-rank_of n w v = cond (open_at n w v) ((17179869184 - key_at n w v) * 65536 + (65535 - v)) 0
+rank_of n w v = cond (open_at n w v) ((keys - key_at n w v) * numbers + (numbers - 1 - v)) 0
 
 -- r is the rank of node v
 pub record Ranked (n : ℕ) (w : List ℕ) (v r : ℕ) : Type 0 where
   pub is : r ≡ rank_of n w v
-  pub near : T (open_at n w v) → key_at n w v < 17179869184
+  pub near : T (open_at n w v) → key_at n w v < keys
 
 pub record Tree (n : ℕ) (w t : List ℕ) : Type 0 where
   pub room : n + n ≤ length t
-  pub near : (v : ℕ) → v < n → T (open_at n w v) → key_at n w v < 17179869184
+  pub near : (v : ℕ) → v < n → T (open_at n w v) → key_at n w v < keys
   pub leaves : (v : ℕ) → v < n → get_or t (n + v) 0 ≡ rank_of n w v
   pub settled : (j : ℕ) → 1 ≤ j → j < n → get_or t j 0 ≡ max (get_or t (2 * j) 0) (get_or t (2 * j + 1) 0)
 
 -- the tree but for the leaf of node v, whose entries were written
 pub record But (n : ℕ) (w : List ℕ) (v : ℕ) (t : List ℕ) : Type 0 where
   pub room : n + n ≤ length t
-  pub near : (x : ℕ) → x < n → (x ≡ v → ⊥) → T (open_at n w x) → key_at n w x < 17179869184
+  pub near : (x : ℕ) → x < n → (x ≡ v → ⊥) → T (open_at n w x) → key_at n w x < keys
   pub leaves : (x : ℕ) → x < n → (x ≡ v → ⊥) → get_or t (n + x) 0 ≡ rank_of n w x
   pub settled : (j : ℕ) → 1 ≤ j → j < n → get_or t j 0 ≡ max (get_or t (2 * j) 0) (get_or t (2 * j + 1) 0)
 

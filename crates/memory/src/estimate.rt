@@ -1,8 +1,8 @@
 // The estimate of a node: the least straight line to a site that isn't taken.
 ghost use Rattle.std.specs.Prelude.{◌≡◌, false, List, ℕ, ◌*◌, ◌≤◌, ◌<◌, pos, length, get_or};
-ghost use Rattle.meaning.specs.Region.{tables_of};
 ghost use Rattle.memory.specs.Memory.{rival_of, is_taken};
-ghost use Rattle.memory.specs.Aim.{site_in, line_to, SideBySide, NoneTaken, Forgotten, Sized, nearer};
+ghost use Rattle.memory.specs.Aim.{site_in, line_to, line_most, nearer};
+ghost use Rattle.memory.specs.Aim.{SideBySide, NoneTaken, Forgotten, Sized};
 
 use crate::Region;
 use meaning::SITES_MOST;
@@ -24,8 +24,7 @@ pub struct Aims {
 impl Aims {
     // While no node is taken, each site stands where it is.
     pub fn gather(r: &Region) -> Aims
-        ensures { (w : List ℕ) → NoneTaken r.now.tables.n w
-            → SideBySide (tables_of r.now.tables) w result.xs result.ys }
+        ensures { (w : List ℕ) → NoneTaken r.now.n w → SideBySide r.now w result.xs result.ys }
     {
         let t = r.tables;
         let mut aims = Aims {
@@ -42,7 +41,7 @@ impl Aims {
 
     // The site v, which was taken, is put farther off than any node is.
     pub fn forget(&mut self, r: &Region, v: usize)
-        ensures across { Forgotten (tables_of r.now.tables) v self.old.xs self.new.xs }
+        ensures across { Forgotten r.now v self.old.xs self.new.xs }
         ensures upward { self.new.ys ≡ self.old.ys }
     {
         let t = r.tables;
@@ -56,10 +55,9 @@ impl Aims {
 
     // One root, of the least square; 0 where no site is left.
     fn line_from(&self, r: &Region, work: &[u32], v: usize) -> Line
-        requires v_in_bounds { v < r.now.tables.n }
-        requires aims { SideBySide (tables_of r.now.tables) work.now self.now.xs self.now.ys }
-        ensures { (result.0 ≡ line_to (tables_of r.now.tables) work.now v)
-            × (result.0 ≤ 1000000000) }
+        requires v_in_bounds { v < r.now.n }
+        requires aims { SideBySide r.now work.now self.now.xs self.now.ys }
+        ensures { (result.0 ≡ line_to r.now work.now v) × (result.0 ≤ line_most) }
     {
         let t = r.tables;
         let x = t.xs[v];
@@ -86,8 +84,8 @@ fn closer(x: i32, y: i32, a: i32, b: i32, best: u64) -> u64
 
 // Whether node v is a site.
 fn is_site(r: &Region, v: usize) -> bool
-    requires { v < r.now.tables.n }
-    ensures { result ≡ site_in (tables_of r.now.tables) v }
+    requires { v < r.now.n }
+    ensures { result ≡ site_in r.now v }
 {
     let t = r.tables;
     let number = v as u16 + 1;
@@ -95,7 +93,7 @@ fn is_site(r: &Region, v: usize) -> bool
 }
 
 fn rival(line: Line, site: bool) -> u32
-    requires { line.0 ≤ 1000000000 }
+    requires { line.0 ≤ line_most }
     ensures { result ≡ rival_of line.0 site }
 {
     let twice = line.0 * 2;
@@ -106,11 +104,10 @@ fn rival(line: Line, site: bool) -> u32
 // so only a node at distance 0 is looked for among the sites. Of the memory only the contract
 // speaks.
 pub fn aim(r: &Region, work: &[u32], aims: &Aims, v: usize) -> u32
-    requires n_in_bounds { (4 * r.now.tables.n ≤ length work.now) × (v < r.now.tables.n) }
-    requires untaken { is_taken r.now.tables.n work.now v ≡ false }
-    requires aims { SideBySide (tables_of r.now.tables) work.now aims.now.xs aims.now.ys }
-    ensures { result ≡ rival_of (line_to (tables_of r.now.tables) work.now v)
-        (site_in (tables_of r.now.tables) v) }
+    requires v_in_bounds { (4 * r.now.n ≤ length work.now) × (v < r.now.n) }
+    requires untaken { is_taken r.now.n work.now v ≡ false }
+    requires aims { SideBySide r.now work.now aims.now.xs aims.now.ys }
+    ensures { result ≡ rival_of (line_to r.now work.now v) (site_in r.now v) }
 {
     let line = aims.line_from(r, work, v);
     let site = line.0 == 0 && is_site(r, v);

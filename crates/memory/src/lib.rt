@@ -1,13 +1,16 @@
 // The work memory of a search: what stands where (specs/Memory, specs/Tree), the open node that
 // goes next, and the estimate of a node.
 //
-// The memory stays a lent slice, which each function takes beside n: a struct around it would hold
-// a `&mut`, whose ghost name every clause would have to carry.
+// The memory stays a lent slice, which each function takes beside n. A struct around it proves, but
+// holds a `&mut`: each function that writes would have to say that the struct keeps that slice, by
+// its ghost name, and its n, in place of the one fact that four quarters fit.
 #![tactic(auto)]
 
-ghost use Rattle.std.specs.Prelude.{◌≡◌, ◌+◌, ◌-◌, ◌*◌, ◌%◌, ◌≤◌, ◌<◌, eqb, length, get_or, replicate};
+ghost use Rattle.std.specs.Prelude.{◌≡◌, ◌+◌, ◌-◌, ◌*◌, ◌%◌, ◌≤◌, ◌<◌, eqb};
+ghost use Rattle.std.specs.Prelude.{length, get_or, replicate};
 ghost use Rattle.meaning.specs.Search.{over};
-ghost use Rattle.memory.specs.Memory.{is_taken, key_at, SiteTold};
+ghost use Rattle.memory.specs.Memory.{is_taken, key_at, place_of, SiteTold};
+ghost use Rattle.memory.specs.Tree.{keys};
 
 pub use estimate::{Aims, aim};
 pub use region::Region;
@@ -52,19 +55,19 @@ pub fn is_rival_site(work: &[u32], n: usize, v: usize) -> bool
     work[n + v] % 2 == 0
 }
 
-// The number of the node before v on the route; 0 where there is none.
-pub fn before(work: &[u32], n: usize, v: usize) -> usize
+// The node before v on the route.
+pub fn before(work: &[u32], n: usize, v: usize) -> Option<usize>
     requires { (4 * n ≤ length work.now) × (v < n) }
-    ensures { result ≡ get_or work.now (n + n + v) 0 }
+    ensures { result ≡ place_of (get_or work.now (n + n + v) 0) }
 {
-    work[n + n + v] as usize
+    (work[n + n + v] as usize).checked_sub(1)
 }
 
 // What open nodes are compared by.
 fn key(work: &[u32], n: usize, v: usize) -> u64
-    requires n_in_bounds { (4 * n ≤ length work.now) × (v < n) }
-    requires nonzero { 0 < get_or work.now (n + v) 0 }
-    ensures { (result ≡ key_at n work.now v) × (result < 17179869184) }
+    requires v_in_bounds { (4 * n ≤ length work.now) × (v < n) }
+    requires is_open { 0 < get_or work.now (n + v) 0 }
+    ensures { (result ≡ key_at n work.now v) × (result < keys) }
 {
     let rival = work[n + v] - 1;
     let site = rival % 2;

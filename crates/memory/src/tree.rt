@@ -1,6 +1,7 @@
 // The open nodes in a winner tree (specs/Tree), beside the work memory: the one that goes next
 // stands at its top, and a node whose entries were written is played again on its way there.
 ghost use Rattle.std.specs.Prelude.{◌≡◌, ℕ, ◌+◌, ◌*◌, ◌≤◌, ◌<◌, length};
+ghost use Rattle.meaning.specs.Limits.{base};
 ghost use Rattle.memory.specs.Tree.{Tree, But, Bare, Ranked, Topped};
 
 use crate::key;
@@ -15,7 +16,7 @@ const NUMBERS: u64 = 65536;
 
 // What a node stands in the tree with: the sooner it goes, the more; 0 where it isn't open.
 fn rank(work: &[u32], n: usize, v: usize) -> u64
-    requires { (4 * n ≤ length work.now) × ((v < n) × (n ≤ 1024)) }
+    requires { (4 * n ≤ length work.now) × ((v < n) × (n ≤ base.nodes)) }
     ensures { Ranked n work.now v result }
 {
     if work[n + v] == 0 {
@@ -41,7 +42,7 @@ impl Model for Winners {
 impl Winners {
     // No node is open.
     pub fn new() -> Winners
-        ensures { (n : ℕ) → n ≤ 1024 → Bare n result }
+        ensures { (n : ℕ) → n ≤ base.nodes → Bare n result }
     {
         Winners {
             ranks: [0; 2 * NODES_MOST],
@@ -50,7 +51,7 @@ impl Winners {
 
     // The open node with the least key; among equals the lower number.
     pub fn first_open(&self, n: usize) -> Option<usize>
-        requires { (1 ≤ n) × (n ≤ 1024) }
+        requires { 1 ≤ n }
         ensures { Topped n self.now result }
     {
         let top = self.ranks[1];
@@ -63,19 +64,20 @@ impl Winners {
     // The leaf of node v, whose entries were written, and the places above it are settled anew, as
     // far up as anything changes.
     pub fn replay(&mut self, work: &[u32], n: usize, v: usize)
-        requires n_in_bounds { (4 * n ≤ length work.now) × ((v < n) × (n ≤ 1024)) }
+        requires v_in_bounds { (4 * n ≤ length work.now) × (v < n) }
         requires but_for_v { But n work.now v self.old }
         ensures { Tree n work.now self.new }
     {
+        let ranks = &mut self.ranks;
         let mut i = n + v;
-        self.ranks[i] = rank(work, n, v);
+        ranks[i] = rank(work, n, v);
         while 1 < i {
             i /= 2;
-            let best = self.ranks[i + i].max(self.ranks[i + i + 1]);
-            if self.ranks[i] == best {
+            let best = ranks[i + i].max(ranks[i + i + 1]);
+            if ranks[i] == best {
                 return;
             }
-            self.ranks[i] = best;
+            ranks[i] = best;
         }
     }
 }

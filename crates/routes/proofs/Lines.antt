@@ -8,6 +8,7 @@ use native.Mathlib.Numerals.{add-one}
 use native.Mathlib.Omega.{arith}
 use lib.ListN.{length, get_or, set, take, drop, length-append, length-map, length-set, drop_of_length-le}
 use lib.Seq.{sets, length-sets, length-take-le, drop-cons, get_or-take}
+use Rattle.meaning.specs.Limits.{base}
 use Rattle.meaning.specs.Listing.{Stop}
 use Rattle.meaning.specs.Search.{over, back_to_back, ends_after}
 use Rattle.routes.specs.Trace.{way_in, lines_in, Leads}
@@ -58,7 +59,7 @@ module _ {n : ℕ} {w listed : List ℕ} {count : ℕ} {e₀ r₀ e r : List ℕ
   -- an end has room in 16 bits
   pub lined_small : i < count → (end : ℕ) → end ≡ at + length (way_at n w listed i) → end ≤ 32768
   lined_small l end d =
-      omega (arith, k.low, way_most n w (get_or listed i 0 - 1) m.linked.one, mul-le-mul {n₁ = suc i} {m₁ = n} {n₂ = 32} {m₂ = 1024} (omega (arith, m.few)) m.linked.nodes)
+      omega (arith, k.low, way_most n w (get_or listed i 0 - 1) m.linked.one, mul-le-mul {n₁ = suc i} {m₁ = n} {n₂ = base.k} {m₂ = base.nodes} (omega (arith, m.few)) m.linked.nodes)
 
   cut : i < count → drop i (take count listed) ≡ get_or listed i 0 ∷ drop (suc i) (take count listed)
   cut l = rw (drop-cons (take count listed) i 0 (omega (arith, size)), get_or-take count listed i 0 l)

@@ -87,11 +87,13 @@ module _ {n : ℕ} {w : List ℕ} {v here done : ℕ} {way : List ℕ} (k : Walk
   pub walked_size : (Goes n w k.left here way → ⊥) → done ≡ length (way_in n w v)
   walked_size h = sym k.size ∙ sym (ap length (walked_all h))
 
-  pub walked_on : Linked n w → Goes n w k.left here way → (number : ℕ) → number ≡ get_or w (n + n + here) 0 → Walked n w v (number - 1) (done + 1) (here ∷ way)
-  walked_on m g number e = rw e record {
-    inside = omega (arith, m.back here k.inside, g.given);
-    left = g.left;
-    sum = omega (arith, k.sum, g.fuel);
-    size = omega (arith, k.size);
-    whole = sym g.same ∙ k.whole;
-  }
+  pub walked_on : Linked n w → Goes n w k.left here way → (u : ℕ) → get_or w (n + n + here) 0 ≡ suc u → Walked n w v u (done + 1) (here ∷ way)
+  walked_on m g u e =
+      let i : u ≡ get_or w (n + n + here) 0 - 1 = omega arith in
+      rw i record {
+        inside = omega (arith, m.back here k.inside, g.given);
+        left = g.left;
+        sum = omega (arith, k.sum, g.fuel);
+        size = omega (arith, k.size);
+        whole = sym g.same ∙ k.whole;
+      }

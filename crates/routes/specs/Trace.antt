@@ -1,5 +1,6 @@
 -- The routes as the memory leads back: entry n + n + v is the number of the node before v.
 use Rattle.std.specs.Prelude.{cond, List, [], ◌∷◌, ℕ, zero, suc, ◌+◌, ◌-◌, ◌*◌, ◌≤◌, ◌<◌, eqb, length, get_or}
+use Rattle.meaning.specs.Limits.{base}
 use Rattle.meaning.specs.Listing.{Stop}
 
 -- v and what comes before it, at most f nodes, in front of what has been found already
@@ -19,7 +20,7 @@ lines_in n w (x ∷ xs) = record { node = x - 1; len = get_or w (x - 1) 0 - 1; w
 -- the memory leads back to nodes
 pub record Linked (n : ℕ) (w : List ℕ) : Type 0 where
   pub one : 1 ≤ n
-  pub nodes : n ≤ 1024
+  pub nodes : n ≤ base.nodes
   pub room : 4 * n ≤ length w
   pub back : (v : ℕ) → v < n → get_or w (n + n + v) 0 ≤ n
 
@@ -27,7 +28,7 @@ pub record Linked (n : ℕ) (w : List ℕ) : Type 0 where
 -- are nodes
 pub record Leads (n : ℕ) (w listed : List ℕ) (count : ℕ) : Type 0 where
   pub linked : Linked n w
-  pub few : count ≤ 32
+  pub few : count ≤ base.k
   pub lines : count ≤ length listed
   pub low : (i : ℕ) → i < count → 1 ≤ get_or listed i 0
   pub high : (i : ℕ) → i < count → get_or listed i 0 ≤ n

@@ -9,34 +9,34 @@ ghost use Rattle.routes.specs.Trace.{way_in, lines_in, Linked, Leads};
 // The number of nodes on the route to v.
 fn size(work: &[u32], n: usize, v: usize) -> usize
     requires linked { Linked n work.now }
-    requires v_lt_n { v < n }
+    requires v_is_node { v < n }
     ensures { result ≡ length (way_in n work.now v) }
 {
     let mut here = v;
     for count in 1..n {
-        let number = memory::before(work, n, here);
-        if number == 0 {
+        let Some(u) = memory::before(work, n, here) else {
             return count;
-        }
-        here = number - 1;
+        };
+        here = u;
     }
     n
 }
 
-// The route to v is written from entry `at` on, its last node first; the answer is its end.
+// The route to v is written from entry `at` on, its last node first; the answer is its end. Where
+// no node comes before, all has been written.
 fn write_route(work: &[u32], n: usize, v: usize, routes: &mut [u16], at: usize) -> usize
     requires linked { Linked n work.now }
-    requires v_lt_n { (v < n) × (at + n ≤ length routes.old) }
+    requires v_is_node { v < n }
+    requires room { at + n ≤ length routes.old }
     ensures value { result ≡ at + length (way_in n work.now v) }
     ensures routes_after { routes.new ≡ sets routes.old at (map suc (way_in n work.now v)) }
 {
     let end = at + size(work, n, v);
     let mut here = v;
-    for place in (at + 1..end).rev() {
+    for place in (at..end).rev() {
         routes[place] = (here + 1) as u16;
-        here = memory::before(work, n, here) - 1;
+        here = memory::before(work, n, here).unwrap_or(here);
     }
-    routes[at] = (here + 1) as u16;
     end
 }
 

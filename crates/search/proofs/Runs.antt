@@ -27,7 +27,7 @@ use Rattle.meaning.proofs.Demands.{lengths_most, taken_most}
 use Rattle.memory.specs.Memory.{SiteTold, next_of}
 use Rattle.std.specs.Prelude.{Option as Maybe, Some, None}
 use Rattle.memory.proofs.Holds.{site_is}
-use Rattle.taking.specs.Ways.{Bounded}
+use Rattle.taking.specs.Ways.{entry_most, Bounded}
 use Rattle.taking.specs.Parents.{parents1, parents_next, parents_after}
 use Rattle.taking.specs.Steps.{Guided, Live, OpenSite, Took, Aiming, Stays, Chosen}
 use Rattle.taking.specs.declared.Guide.{Guide}
@@ -106,10 +106,10 @@ module _ {t : Tables} {q k : ℕ} (P : Passed t q k) {i : ℕ} {work listed leng
   from = parents_after (region_of t) (aim_of t) k (q - 1) i
 
   -- a length that has been seen, or 0
-  bounds : Bounded t 4000000000 w
+  bounds : Bounded t w
   bounds v b = go (get_or here.best v 0) refl
     where
-      go : (x : ℕ) → get_or here.best v 0 ≡ x → get_or w v 0 ≤ 4000000000
+      go : (x : ℕ) → get_or here.best v 0 ≡ x → get_or w v 0 ≤ entry_most
       go zero e = let a = ran.live.holds.lens v b in omega arith
       go (suc x) e = let a = ran.live.holds.lens v b in let m = lengths_most (S P) (aim_of t) (aim_fits (S P)) i v x e in omega arith
 
@@ -276,7 +276,7 @@ module _ {t : Tables} {q k : ℕ} (P : Passed t q k) {i : ℕ} {work listed leng
   pub in_bounds : (4 * t.n ≤ length w') × (u < t.n)
   in_bounds = (ran_on.live.holds.room, (first_of P ran node).below)
 
-  pub bounded : Bounded t 4000000000 w'
+  pub bounded : Bounded t w'
   bounded = bounds P ran_on
 
   pub opened : OpenSite t u w'

@@ -18,12 +18,12 @@ use taking::{Chains, Guide, Network};
 
 // The node to be taken next: none once k sites or all of them are listed, or where no node is open.
 fn next(r: &Region, work: &mut [u32], guide: &mut Guide, k: usize, sites: usize) -> Option<usize>
-    requires guided { Guided (tables_of r.now.tables) work.old guide.old }
-    requires aiming { sites < r.now.tables.s → Aiming (tables_of r.now.tables) work.old }
-    ensures guided_after { Guided (tables_of r.now.tables) work.new guide.new }
-    ensures picked { Picked (tables_of r.now.tables) k sites work.old work.new result }
+    requires guided { Guided r.now work.old guide.old }
+    requires aiming { sites < r.now.s → Aiming r.now work.old }
+    ensures guided_after { Guided r.now work.new guide.new }
+    ensures picked { Picked r.now k sites work.old work.new result }
 {
-    let all_listed = r.tables.s <= sites;
+    let all_listed = r.sites() <= sites;
     if k <= sites || all_listed {
         return None;
     }
@@ -32,22 +32,22 @@ fn next(r: &Region, work: &mut [u32], guide: &mut Guide, k: usize, sites: usize)
 
 // A taken site goes to the end of the list. The answer is how many are listed now.
 fn list(
+    r: &Region,
     work: &[u32],
-    n: usize,
     v: usize,
     site: bool,
     listed: &mut [u16],
     lengths: &mut [u32],
     count: usize,
 ) -> usize
-    requires v_in_bounds { (4 * n ≤ length work.now) × ((v < n) × (n ≤ base.nodes)) }
+    requires v_in_bounds { (4 * r.now.n ≤ length work.now) × (v < r.now.n) }
     requires count_in_bounds { (count < length listed.old) × (count < length lengths.old) }
     ensures { Put site v (get_or work.now v 0 - 1) count listed.old lengths.old
         listed.new lengths.new result }
 {
     if site {
+        lengths[count] = memory::road_at(work, r.nodes(), v).0;
         listed[count] = (v + 1) as u16;
-        lengths[count] = memory::road_at(work, n, v).0;
         count + 1
     } else {
         count
@@ -64,11 +64,11 @@ fn run(
     listed: &mut [u16],
     lengths: &mut [u32],
 ) -> Tally
-    requires passed { Passed (tables_of network.now.region.tables) query k }
-    requires bare { Bare network.now.region.tables.n guide.old.tree }
-    requires room { (4 * network.now.region.tables.n ≤ length work.old)
+    requires passed { Passed network.now.region query k }
+    requires bare { Bare network.now.region.n guide.old.tree }
+    requires room { (4 * network.now.region.n ≤ length work.old)
         × ((k ≤ length listed.old) × (k ≤ length lengths.old)) }
-    ensures { Ran (tables_of network.now.region.tables) query k network.now.region.tables.n
+    ensures { Ran network.now.region query k network.now.region.n
         work.old listed.old lengths.old work.new listed.new lengths.new
         result.sites result.taken }
 {
@@ -78,7 +78,7 @@ fn run(
     let mut taken = 0;
     while let Some(u) = next(r, work, guide, k, sites) {
         let site = taking::take(network, work, guide, u);
-        sites = list(work, r.tables.n, u, site, listed, lengths, sites);
+        sites = list(r, work, u, site, listed, lengths, sites);
         taken += 1;
     }
     Tally { sites, taken }

@@ -1,8 +1,7 @@
 -- A node's arcs in a chain: what a number in it says of the arcs, and how the chains are made, from
 -- the last arc down.
 use mathlib.Core.List.{List}
-use mathlib.Core.Path.{◌≡◌, refl, sym, ◌∙◌}
-use Rattle.std.specs.Prelude.{Some, None}
+use mathlib.Core.Path.{◌≡◌, sym, ◌∙◌}
 use Prim.Native.Nat.{ℕ, zero, suc, ◌+◌, ◌-◌, ◌≤◌, ◌<◌}
 use native.Mathlib.Decide.{ℕ_discrete}
 use native.Mathlib.Numerals.{add-one}
@@ -12,7 +11,7 @@ use lib.ListN.{length, get_or, set, length-set}
 use lib.Seq.{get_or-set_same, get_or-set_other}
 use Rattle.meaning.specs.Region.{Tables}
 use Rattle.memory.specs.Region.{Arcs}
-use Rattle.taking.specs.Ways.{seek, seek_next, Unlinked, Linked, sought}
+use Rattle.taking.specs.Ways.{seek, seek_next, Unlinked, Linked}
 
 -- none of the arcs from i to before j leaves `number`
 abbrev pub Apart : List ℕ → ℕ → ℕ → ℕ → Type 0
@@ -41,7 +40,7 @@ module _ (tails : List ℕ) (number : ℕ) where
       go (yes e) = rw e z
       go (no e) = a x (omega arith) h
 
-  -- what is sought was found
+  -- what is place_of was found
   pub seek_some : (i k j : ℕ) → seek tails number i k ≡ suc j → Met tails number i k j
   unfolding seek
   seek_some i zero j e = absurd (omega arith)
@@ -64,15 +63,6 @@ module _ (tails : List ℕ) (number : ℕ) where
       go : Dec (get_or tails i 0 ≡ number) → (seek tails number (suc i) k ≡ 0 → Apart tails number (suc i) (suc i + k)) → Apart tails number i (i + suc k)
       go (yes h) f = let s = seek_own i k h in absurd (omega arith)
       go (no h) f = apart_more i (i + suc k) h (λ y a b. f (sym (seek_other i k h) ∙ e) y a (omega arith))
-
--- the place that a number stands for
-pub sought_some : (x i : ℕ) → sought x ≡ Some i → x ≡ suc i
-sought_some zero i e = let z : ◌≡◌ {A = ℕ} 0 1 = cc in absurd (omega arith)
-sought_some (suc x) i e = cc
-
-pub sought_none : (x : ℕ) → sought x ≡ None → x ≡ 0
-sought_none zero e = refl
-sought_none (suc x) e = let z : ◌≡◌ {A = ℕ} 0 1 = cc in absurd (omega arith)
 
 -- ---- linking
 

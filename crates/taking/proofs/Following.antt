@@ -13,10 +13,12 @@ use Rattle.meaning.specs.Taking.{State, taken, aimed, len_at, lower, looks, rela
 use Rattle.meaning.proofs.States.{taken_new}
 use Rattle.memory.specs.Region.{Arcs}
 use Rattle.taking.specs.declared.Guide.{Guide}
-use Rattle.taking.specs.Ways.{seek, seek_first, seek_next, sought}
+use Rattle.memory.specs.Memory.{place_of}
+use Rattle.taking.specs.Ways.{seek, seek_first, seek_next}
 use Rattle.taking.specs.Parents.{parent_at, parent_by, parents_to, parents1}
 use Rattle.taking.specs.Steps.{Guided, Live, reached, Reached, Relaxed, Closed, Took}
-use Rattle.taking.proofs.Chaining.{Apart, Met, seek_some, seek_none, sought_some, sought_none}
+use Rattle.memory.proofs.Places.{place_some, place_none}
+use Rattle.taking.proofs.Chaining.{Apart, Met, seek_some, seek_none}
 use Rattle.taking.proofs.Closing.{close_live}
 
 -- ---- arcs
@@ -70,7 +72,7 @@ relaxed_own t u i w w₁ w₂ l e x r s from rest H k =
 pub record Following (t : Tables) (u : ℕ) (w w' : List ℕ) (guide' : Guide) (arc : Option ℕ) : Type 0 where
   pub passed : ℕ
   pub most : passed ≤ t.m
-  pub next : arc ≡ sought (seek t.tails (suc u) passed (t.m - passed))
+  pub next : arc ≡ place_of (seek t.tails (suc u) passed (t.m - passed))
   pub size : length w' ≡ length w
   pub guided : Guided t w' guide'
   pub done : Relaxed t u passed w w'
@@ -80,7 +82,7 @@ abbrev pub left : ℕ → Option ℕ → ℕ
 left m None = 0
 left m (Some i) = m - i
 
-pub follow_none : {t : Tables} {u : ℕ} {w : List ℕ} {guide : Guide} {arc : Option ℕ} → Guided t w guide → arc ≡ sought (seek_first t u) → Following t u w w guide arc
+pub follow_none : {t : Tables} {u : ℕ} {w : List ℕ} {guide : Guide} {arc : Option ℕ} → Guided t w guide → arc ≡ place_of (seek_first t u) → Following t u w w guide arc
 unfolding relax_to parents_to
 follow_none {t} g e = record {
   passed = 0;
@@ -97,27 +99,27 @@ module _ {t : Tables} {u : ℕ} {w w₁ : List ℕ} {guide₁ : Guide} {arc : Op
   follow_all e =
       let h = r.most in
       relaxed_past t u w w₁ A.tail_low r.passed t.m h (omega arith)
-      (λ x a b. seek_none t.tails (suc u) r.passed (t.m - r.passed) (sought_none _ (sym r.next ∙ e)) x a (omega arith)) r.done
+      (λ x a b. seek_none t.tails (suc u) r.passed (t.m - r.passed) (place_none _ (sym r.next ∙ e)) x a (omega arith)) r.done
 
   module _ {i : ℕ} (e : arc ≡ Some i) where
     -- the next arc of u
     met : Met t.tails (suc u) r.passed (t.m - r.passed) i
-    met = seek_some t.tails (suc u) r.passed (t.m - r.passed) i (sought_some _ i (sym r.next ∙ e))
+    met = seek_some t.tails (suc u) r.passed (t.m - r.passed) i (place_some _ i (sym r.next ∙ e))
 
     pub follow_below : i < t.m
     follow_below = omega (arith, met.below, r.most)
 
     -- a chain goes up
-    pub follow_less : (after : Option ℕ) → after ≡ sought (seek_next t i) → left t.m after < left t.m arc
+    pub follow_less : (after : Option ℕ) → after ≡ place_of (seek_next t i) → left t.m after < left t.m arc
     follow_less after d = rw e (go after d)
       where
-        go : (after : Option ℕ) → after ≡ sought (seek_next t i) → left t.m after < t.m - i
+        go : (after : Option ℕ) → after ≡ place_of (seek_next t i) → left t.m after < t.m - i
         go None d = omega (arith, follow_below)
         go (Some j) d =
-            let M = seek_some t.tails (get_or t.tails i 0) (suc i) (t.m - suc i) j (sought_some _ j (sym d)) in
+            let M = seek_some t.tails (get_or t.tails i 0) (suc i) (t.m - suc i) j (place_some _ j (sym d)) in
             omega (arith, follow_below, M.from, M.below)
 
-    pub follow_one : u < t.n → {w₂ : List ℕ} {guide₂ : Guide} (h : ℕ) {after : Option ℕ} → h ≡ get_or t.heads i 0 - 1 → after ≡ sought (seek_next t i)
+    pub follow_one : u < t.n → {w₂ : List ℕ} {guide₂ : Guide} (h : ℕ) {after : Option ℕ} → h ≡ get_or t.heads i 0 - 1 → after ≡ place_of (seek_next t i)
         → length w₂ ≡ length w₁ → Guided t w₂ guide₂ → Reached t u h (get_or w u 0 + get_or t.weights i 0) w₁ w₂ → Following t u w w₂ guide₂ after
     follow_one l {w₂} h is d size g x =
         let M = met in

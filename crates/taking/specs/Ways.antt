@@ -1,10 +1,14 @@
 -- How a node's arcs are linked, and how far the lengths in the memory can be.
-use Rattle.std.specs.Prelude.{Option, Some, None, cond, List, ◌≡◌, ℕ, zero, suc, ◌-◌, ◌≤◌, ◌<◌, eqb, length, get_or}
+use Rattle.std.specs.Prelude.{cond, List, ◌≡◌, ℕ, zero, suc, ◌-◌, ◌≤◌, ◌<◌, eqb, length, get_or}
 use Rattle.meaning.specs.Region.{Tables}
 
--- no node's entry is above b
-abbrev pub Bounded : Tables → ℕ → List ℕ → Type 0
-Bounded t b w = (v : ℕ) → v < t.n → get_or w v 0 ≤ b
+-- with an arc's weight added, an entry of as much fits in 32 bits
+abbrev pub entry_most : ℕ
+entry_most = 4000000000
+
+-- no node's entry is above that
+abbrev pub Bounded : Tables → List ℕ → Type 0
+Bounded t w = (v : ℕ) → v < t.n → get_or w v 0 ≤ entry_most
 
 -- ---- the arcs of a node in a chain
 
@@ -32,8 +36,3 @@ pub record Linked (t : Tables) (starts nexts : List ℕ) : Type 0 where
   pub next_room : t.m ≤ length nexts
   pub first : (v : ℕ) → v < t.n → get_or starts v 0 ≡ seek_first t v
   pub next : (i : ℕ) → i < t.m → get_or nexts i 0 ≡ seek_next t i
-
--- an arc's place, of one more than it
-abbrev pub sought : ℕ → Option ℕ
-sought zero = None
-sought (suc i) = Some i

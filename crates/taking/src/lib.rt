@@ -4,14 +4,17 @@
 // The memory stays a lent slice, as memory's own functions take it.
 #![tactic(auto)]
 
-ghost use Rattle.std.specs.Prelude.{◌≡◌, false, ℕ, ◌+◌, ◌*◌, ◌%◌, ◌≤◌, ◌<◌, eqb, length, get_or, drop, replicate};
-ghost use Rattle.meaning.specs.Region.{tables_of, region_of};
+ghost use Rattle.std.specs.Prelude.{◌≡◌, false, ℕ, ◌+◌, ◌*◌, ◌%◌, ◌≤◌, ◌<◌, eqb};
+ghost use Rattle.std.specs.Prelude.{length, get_or, drop, replicate};
+ghost use Rattle.meaning.specs.Limits.{base};
+ghost use Rattle.meaning.specs.Region.{region_of};
 ghost use Rattle.meaning.specs.Taking.{start as start_of};
 ghost use Rattle.memory.specs.Memory.{SiteTold, is_taken};
 ghost use Rattle.memory.specs.Aim.{SameTaken};
 ghost use Rattle.memory.specs.Tree.{Tree, Bare, SameKeys};
 ghost use Rattle.taking.specs.Ways.{Bounded};
-ghost use Rattle.taking.specs.Steps.{Guided, Live, Arrived, Reached, Relaxed, SameLens, Shut, Closed, OpenSite, Took, Looked, Aiming, Stays, Chosen};
+ghost use Rattle.taking.specs.Steps.{Guided, Live, Arrived, Reached, Relaxed, SameLens, Shut};
+ghost use Rattle.taking.specs.Steps.{Closed, OpenSite, Took, Looked, Aiming, Stays, Chosen};
 
 use meaning::SITES_MOST;
 use memory::{Aims, Region, Winners};
@@ -30,7 +33,7 @@ pub struct Guide {
 impl Guide {
     // No node is open.
     pub fn new() -> Guide
-        ensures { (n : ℕ) → n ≤ 1024 → Bare n result.tree }
+        ensures { (n : ℕ) → n ≤ base.nodes → Bare n result.tree }
     {
         Guide {
             aims: Aims {
@@ -44,13 +47,13 @@ impl Guide {
 
 // The search starts with the query node open at length 0, and all sites are aimed at.
 pub fn start(r: &Region, work: &mut [u32], guide: &mut Guide, q: usize)
-    requires n_in_bounds { (4 * r.now.tables.n ≤ length work.old) × (q < r.now.tables.n) }
-    requires bare { Bare r.now.tables.n guide.old.tree }
-    ensures guided { Guided (tables_of r.now.tables) work.new guide.new }
-    ensures live { Live (tables_of r.now.tables) (start_of (region_of (tables_of r.now.tables)) q)
-        (replicate r.now.tables.n 0) (drop (4 * r.now.tables.n) work.old) work.new }
+    requires q_in_bounds { (4 * r.now.n ≤ length work.old) × (q < r.now.n) }
+    requires bare { Bare r.now.n guide.old.tree }
+    ensures guided { Guided r.now work.new guide.new }
+    ensures live { Live r.now (start_of (region_of r.now) q) (replicate r.now.n 0)
+        (drop (4 * r.now.n) work.old) work.new }
 {
-    let n = r.tables.n;
+    let n = r.nodes();
     memory::clear(work, n);
     guide.aims = Aims::gather(r);
     let rival = memory::aim(r, work, &guide.aims, q);
@@ -60,13 +63,14 @@ pub fn start(r: &Region, work: &mut [u32], guide: &mut Guide, q: usize)
 }
 
 // Of two nodes that give h its length the lower one comes before it.
-fn lower(work: &mut [u32], n: usize, u: usize, h: usize)
-    requires n_in_bounds { (4 * n ≤ length work.old) × (n ≤ 1024) }
-    requires u_lt_n { u < n }
-    requires h_lt_n { h < n }
-    ensures same_keys { SameKeys n work.old work.new }
-    ensures arrived { Arrived n u h (get_or work.old h 0) work.old work.new }
+fn lower(r: &Region, work: &mut [u32], u: usize, h: usize)
+    requires room { 4 * r.now.n ≤ length work.old }
+    requires tail_is_node { u < r.now.n }
+    requires head_is_node { h < r.now.n }
+    ensures same_keys { SameKeys r.now.n work.old work.new }
+    ensures arrived { Arrived r.now.n u h (get_or work.old h 0) work.old work.new }
 {
+    let n = r.nodes();
     let number = (u + 1) as u32;
     let lower = number < work[n + n + h];
     if lower {
@@ -75,16 +79,17 @@ fn lower(work: &mut [u32], n: usize, u: usize, h: usize)
 }
 
 // An open node has a shorter length by way of u.
-fn shorten(work: &mut [u32], n: usize, tree: &mut Winners, u: usize, h: usize, at: u32)
-    requires n_in_bounds { (4 * n ≤ length work.old) × (n ≤ 1024) }
-    requires u_lt_n { u < n }
-    requires h_lt_n { h < n }
+fn shorten(r: &Region, work: &mut [u32], tree: &mut Winners, u: usize, h: usize, at: u32)
+    requires room { 4 * r.now.n ≤ length work.old }
+    requires tail_is_node { u < r.now.n }
+    requires head_is_node { h < r.now.n }
     requires shorter { at < get_or work.old h 0 }
-    requires tree { Tree n work.old tree.old }
-    ensures tree_after { Tree n work.new tree.new }
-    ensures same_taken { SameTaken n work.old work.new }
-    ensures arrived { Arrived n u h at work.old work.new }
+    requires tree { Tree r.now.n work.old tree.old }
+    ensures tree_after { Tree r.now.n work.new tree.new }
+    ensures same_taken { SameTaken r.now.n work.old work.new }
+    ensures arrived { Arrived r.now.n u h at work.old work.new }
 {
+    let n = r.nodes();
     let is_open = work[n + h] != 0;
     if is_open {
         work[h] = at;
@@ -96,14 +101,14 @@ fn shorten(work: &mut [u32], n: usize, tree: &mut Winners, u: usize, h: usize, a
 // An arc of u reaches node h, at one more than the length: h is opened, or shortened, or u comes
 // before it as the lower of two.
 fn reach(r: &Region, work: &mut [u32], guide: &mut Guide, u: usize, h: usize, at: u32)
-    requires n_in_bounds { 4 * r.now.tables.n ≤ length work.old }
-    requires u_lt_n { u < r.now.tables.n }
-    requires h_lt_n { h < r.now.tables.n }
-    requires guided { Guided (tables_of r.now.tables) work.old guide.old }
-    ensures guided_after { Guided (tables_of r.now.tables) work.new guide.new }
-    ensures reached { Reached (tables_of r.now.tables) u h at work.old work.new }
+    requires room { 4 * r.now.n ≤ length work.old }
+    requires tail_is_node { u < r.now.n }
+    requires head_is_node { h < r.now.n }
+    requires guided { Guided r.now work.old guide.old }
+    ensures guided_after { Guided r.now work.new guide.new }
+    ensures reached { Reached r.now u h at work.old work.new }
 {
-    let n = r.tables.n;
+    let n = r.nodes();
     let old = work[h];
     if old == 0 {
         let rival = memory::aim(r, work, &guide.aims, h);
@@ -112,45 +117,44 @@ fn reach(r: &Region, work: &mut [u32], guide: &mut Guide, u: usize, h: usize, at
         work[n + n + h] = (u + 1) as u32;
         guide.tree.replay(work, n, h);
     } else if old == at {
-        lower(work, n, u, h);
+        lower(r, work, u, h);
     } else if at < old {
-        shorten(work, n, &mut guide.tree, u, h, at);
+        shorten(r, work, &mut guide.tree, u, h, at);
     }
 }
 
 // The heads of u's arcs are opened or shortened, in the order of the table.
 fn relax(network: &Network, work: &mut [u32], guide: &mut Guide, u: usize)
-    requires n_in_bounds { (4 * network.now.region.tables.n ≤ length work.old)
-        × (u < network.now.region.tables.n) }
-    requires bounded { Bounded (tables_of network.now.region.tables) 4000000000 work.old }
-    requires guided { Guided (tables_of network.now.region.tables) work.old guide.old }
-    ensures guided_after { Guided (tables_of network.now.region.tables) work.new guide.new }
-    ensures relaxed { Relaxed (tables_of network.now.region.tables) u network.now.region.tables.m
-        work.old work.new }
+    requires u_in_bounds { (4 * network.now.region.n ≤ length work.old)
+        × (u < network.now.region.n) }
+    requires bounded { Bounded network.now.region work.old }
+    requires guided { Guided network.now.region work.old guide.old }
+    ensures guided_after { Guided network.now.region work.new guide.new }
+    ensures relaxed { Relaxed network.now.region u network.now.region.m work.old work.new }
 {
     let r = &network.region;
     let from = work[u];
     let mut arc = network.first(u);
     while let Some(i) = arc {
-        let at = from + r.tables.weights[i];
+        let at = from + network.weight(i);
         reach(r, work, guide, u, network.head(i), at);
         arc = network.next(i);
     }
 }
 
 // The open node u is marked as taken. The answer is whether it is a site.
-fn close(work: &mut [u32], n: usize, tree: &mut Winners, u: usize) -> bool
-    requires n_in_bounds { (4 * n ≤ length work.old) × (n ≤ 1024) }
-    requires u_lt_n { u < n }
+fn close(r: &Region, work: &mut [u32], tree: &mut Winners, u: usize) -> bool
+    requires u_in_bounds { (4 * r.now.n ≤ length work.old) × (u < r.now.n) }
     requires seen { 0 < get_or work.old u 0 }
-    requires tree { Tree n work.old tree.old }
-    ensures value { result ≡ eqb (get_or work.old (n + u) 0 % 2) 0 }
-    ensures site_told { SiteTold n work.old u result }
-    ensures tree_after { Tree n work.new tree.new }
-    ensures same_lens { SameLens n work.old work.new }
-    ensures shut { Shut n u work.old work.new }
-    ensures closed { Closed n u work.old work.new }
+    requires tree { Tree r.now.n work.old tree.old }
+    ensures value { result ≡ eqb (get_or work.old (r.now.n + u) 0 % 2) 0 }
+    ensures site_told { SiteTold r.now.n work.old u result }
+    ensures tree_after { Tree r.now.n work.new tree.new }
+    ensures same_lens { SameLens r.now.n work.old work.new }
+    ensures shut { Shut r.now.n u work.old work.new }
+    ensures closed { Closed r.now.n u work.old work.new }
 {
+    let n = r.nodes();
     let site = memory::is_rival_site(work, n, u);
     work[n + u] = 0;
     tree.replay(work, n, u);
@@ -159,17 +163,17 @@ fn close(work: &mut [u32], n: usize, tree: &mut Winners, u: usize) -> bool
 
 // The open node u is taken; a site is aimed at no longer. The answer is whether it is one.
 pub fn take(network: &Network, work: &mut [u32], guide: &mut Guide, u: usize) -> bool
-    requires n_in_bounds { (4 * network.now.region.tables.n ≤ length work.old)
-        × (u < network.now.region.tables.n) }
-    requires bounded { Bounded (tables_of network.now.region.tables) 4000000000 work.old }
-    requires open_site { OpenSite (tables_of network.now.region.tables) u work.old }
-    requires guided { Guided (tables_of network.now.region.tables) work.old guide.old }
-    ensures site_told { SiteTold network.now.region.tables.n work.old u result }
-    ensures guided_after { Guided (tables_of network.now.region.tables) work.new guide.new }
-    ensures took { Took (tables_of network.now.region.tables) u work.old work.new }
+    requires u_in_bounds { (4 * network.now.region.n ≤ length work.old)
+        × (u < network.now.region.n) }
+    requires bounded { Bounded network.now.region work.old }
+    requires open_site { OpenSite network.now.region u work.old }
+    requires guided { Guided network.now.region work.old guide.old }
+    ensures site_told { SiteTold network.now.region.n work.old u result }
+    ensures guided_after { Guided network.now.region work.new guide.new }
+    ensures took { Took network.now.region u work.old work.new }
 {
     let r = &network.region;
-    let site = close(work, r.tables.n, &mut guide.tree, u);
+    let site = close(r, work, &mut guide.tree, u);
     if site {
         guide.aims.forget(r, u);
     }
@@ -180,14 +184,14 @@ pub fn take(network: &Network, work: &mut [u32], guide: &mut Guide, u: usize) ->
 // Whether the open node v has its present estimate. One that has risen is stored, and v is played
 // again.
 fn fresh(r: &Region, work: &mut [u32], guide: &mut Guide, v: usize) -> bool
-    requires n_in_bounds { (4 * r.now.tables.n ≤ length work.old) × (v < r.now.tables.n) }
-    requires untaken { is_taken r.now.tables.n work.old v ≡ false }
-    requires guided { Guided (tables_of r.now.tables) work.old guide.old }
-    ensures guided_after { Guided (tables_of r.now.tables) work.new guide.new }
-    ensures same_taken { SameTaken r.now.tables.n work.old work.new }
-    ensures looked { Looked (tables_of r.now.tables) v work.old work.new result }
+    requires v_in_bounds { (4 * r.now.n ≤ length work.old) × (v < r.now.n) }
+    requires untaken { is_taken r.now.n work.old v ≡ false }
+    requires guided { Guided r.now work.old guide.old }
+    ensures guided_after { Guided r.now work.new guide.new }
+    ensures same_taken { SameTaken r.now.n work.old work.new }
+    ensures looked { Looked r.now v work.old work.new result }
 {
-    let n = r.tables.n;
+    let n = r.nodes();
     let rival = memory::aim(r, work, &guide.aims, v);
     if work[n + v] == rival {
         return true;
@@ -201,15 +205,16 @@ fn fresh(r: &Region, work: &mut [u32], guide: &mut Guide, v: usize) -> bool
 // most the present one: only of the node at the tree's top it is made anew, and only where a site
 // has been taken (missed).
 pub fn choose(r: &Region, work: &mut [u32], guide: &mut Guide, missed: bool) -> Option<usize>
-    requires guided { Guided (tables_of r.now.tables) work.old guide.old }
-    requires aiming { Aiming (tables_of r.now.tables) work.old }
-    ensures guided_after { Guided (tables_of r.now.tables) work.new guide.new }
-    ensures same_taken { SameTaken r.now.tables.n work.old work.new }
-    ensures stays { Stays (tables_of r.now.tables) work.old work.new }
-    ensures chosen { Chosen (tables_of r.now.tables) missed work.old result }
+    requires guided { Guided r.now work.old guide.old }
+    requires aiming { Aiming r.now work.old }
+    ensures guided_after { Guided r.now work.new guide.new }
+    ensures same_taken { SameTaken r.now.n work.old work.new }
+    ensures stays { Stays r.now work.old work.new }
+    ensures chosen { Chosen r.now missed work.old result }
 {
+    let n = r.nodes();
     loop {
-        let v = guide.tree.first_open(r.tables.n)?;
+        let v = guide.tree.first_open(n)?;
         if !missed || fresh(r, work, guide, v) {
             return Some(v);
         }

@@ -1,7 +1,9 @@
 // The region of a search with the arcs of each node in a chain, in the order of the table.
 ghost use Rattle.std.specs.Prelude.{◌≡◌, ◌<◌};
-ghost use Rattle.meaning.specs.Region.{tables_of, region_of};
-ghost use Rattle.taking.specs.Ways.{Unlinked, Linked, sought, seek_first, seek_next};
+ghost use Rattle.meaning.specs.Region.{region_of};
+ghost use Rattle.memory.specs.Memory.{place_of};
+ghost use Rattle.memory.specs.Region.{Sound};
+ghost use Rattle.taking.specs.Ways.{Unlinked, Linked, seek_first, seek_next};
 
 use meaning::{ARCS_MOST, NODES_MOST};
 use memory::Region;
@@ -27,12 +29,13 @@ impl Chains {
 }
 
 // A region whose arcs are linked. The chains are lent, for a small search is slower with a copy of
-// them.
-#[derive(Clone, Copy)]
+// them. What the checks have shown is said here again, for those who read the chains alone.
+#[derive(Drop)]
 pub struct Network<'a> {
     pub region: Region<'a>,
     chains: &'a Chains,
-    ghost linked: { Linked (tables_of region.tables) chains.now.starts chains.now.nexts },
+    ghost sound: { Sound region },
+    ghost linked: { Linked region chains.now.starts chains.now.nexts },
 }
 
 impl<'a> Network<'a> {
@@ -52,26 +55,36 @@ impl<'a> Network<'a> {
 
     // The first arc that leaves node u.
     pub(crate) fn first(&self, u: usize) -> Option<usize>
-        requires { u < self.now.region.tables.n }
-        ensures { result ≡ sought (seek_first (tables_of self.now.region.tables) u) }
+        requires { u < self.now.region.n }
+        ensures { result ≡ place_of (seek_first self.now.region u) }
     {
         (self.chains.starts[u] as usize).checked_sub(1)
     }
 
     // The arc after arc i that leaves the same node.
     pub(crate) fn next(&self, i: usize) -> Option<usize>
-        requires { i < self.now.region.tables.m }
-        ensures { result ≡ sought (seek_next (tables_of self.now.region.tables) i) }
+        requires { i < self.now.region.m }
+        ensures { result ≡ place_of (seek_next self.now.region i) }
     {
         (self.chains.nexts[i] as usize).checked_sub(1)
     }
 
     // The node that arc i leads to.
     pub(crate) fn head(&self, i: usize) -> usize
-        requires { i < self.now.region.tables.m }
-        ensures value { result ≡ (region_of (tables_of self.now.region.tables)).head i }
-        ensures below { result < self.now.region.tables.n }
+        requires { i < self.now.region.m }
+        ensures value { result ≡ (region_of self.now.region).head i }
+        ensures below { result < self.now.region.n }
     {
-        self.region.tables.heads[i] as usize - 1
+        let r = &self.region;
+        r.tables.heads[i] as usize - 1
+    }
+
+    // How much arc i weighs.
+    pub(crate) fn weight(&self, i: usize) -> u32
+        requires { i < self.now.region.m }
+        ensures { result ≡ (region_of self.now.region).weight i }
+    {
+        let r = &self.region;
+        r.tables.weights[i]
     }
 }

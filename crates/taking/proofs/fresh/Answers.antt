@@ -8,11 +8,20 @@ use Rattle.taking.proofs.fresh.Goals as goal
 use Rattle.taking.proofs.fresh.Goals.{After-replay}
 
 -- no node is taken
-same : (c : After-replay) → SameTaken c.args.r.now.tables.n c.args.work.now (set c.args.work.now (c.args.r.now.tables.n + c.args.v) c.aim-rival.result)
-same c = rival_taken c.args.r.now.tables.n c.args.v c.aim-rival.result c.args.work.now c.requires.n_in_bounds.1 (omega arith) c.requires.untaken (omega (arith, c.aim-rival.ensures))
+same : (c : After-replay)
+    → SameTaken c.args.r.now.n c.args.work.now
+    (set c.args.work.now (c.nodes-n.result + c.args.v) c.aim-rival.result)
+same c =
+    rw c.nodes-n.ensures.count
+    (rival_taken c.args.r.now.n c.args.v c.aim-rival.result c.args.work.now
+    c.requires.v_in_bounds.1 (omega arith) c.requires.untaken (omega (arith, c.aim-rival.ensures)))
 
 pub returns-clause-guided_after : goal.returns-clause-guided_after
 returns-clause-guided_after c = record {
-  aims = aims_same c.args.r.now.sound.ground c.requires.guided.aims (same (goal.at.returns-clause-guided_after c).After-replay);
-  tree = c.replay.ensures;
+  aims = aims_same c.nodes-n.ensures.sound.ground c.requires.guided.aims
+      (same (goal.at.returns-clause-guided_after c).After-replay);
+  tree = rw (← c.nodes-n.ensures.count) c.replay.ensures;
 }
+
+pub returns-clause-same_taken : goal.returns-clause-same_taken
+returns-clause-same_taken c = same (goal.at.returns-clause-same_taken c).After-replay

@@ -5,21 +5,22 @@ use Rattle.taking.proofs.relax.Goals as goal
 use Rattle.taking.proofs.relax.Goals.{In-Some}
 
 -- an arc is followed
-below : (c : In-Some) → c.in-Some.i < c.args.network.now.region.tables.m
-below c = follow_below c.args.network.now.region.sound.arcs c.loop-arc.invariant c.in-Some.is
+below : (c : In-Some) → c.in-Some.i < c.args.network.now.region.m
+below c = follow_below c.args.network.now.sound.arcs c.loop-arc.invariant c.in-Some.is
 
 pub loop-arc-init : goal.loop-arc-init
 loop-arc-init c = follow_none c.requires.guided c.first-arc.ensures
 
-pub offset_bounds-r-i : goal.offset_bounds-r-i
-offset_bounds-r-i c = omega (arith, below (goal.at.offset_bounds-r-i c).In-Some, c.args.network.now.region.sound.few_arcs)
-
-pub bounds-r-i : goal.bounds-r-i
-bounds-r-i c = omega (arith, below (goal.at.bounds-r-i c).In-Some, c.args.network.now.region.sound.arcs.weight_room)
-
 pub overflow_add-at : goal.overflow_add-at
 overflow_add-at c =
-    omega (arith, c.requires.bounded c.args.u c.requires.n_in_bounds.1, c.args.network.now.region.sound.arcs.light _ (below (goal.at.overflow_add-at c).In-Some))
+    omega (
+      arith,
+      c.requires.bounded c.args.u c.requires.u_in_bounds.1,
+      c.args.network.now.sound.arcs.light _ (below (goal.at.overflow_add-at c).In-Some),
+    )
+
+pub weight-requires : goal.weight-requires
+weight-requires c = below (goal.at.weight-requires c).In-Some
 
 pub head-requires : goal.head-requires
 head-requires c = below (goal.at.head-requires c).In-Some
@@ -28,12 +29,16 @@ pub next-arc-requires : goal.next-arc-requires
 next-arc-requires c = below (goal.at.next-arc-requires c).In-Some
 
 pub loop-arc-smaller : goal.loop-arc-smaller
-loop-arc-smaller c = follow_less c.args.network.now.region.sound.arcs c.loop-arc.invariant c.in-Some.is c.next-arc.result c.next-arc.ensures
+loop-arc-smaller c =
+    follow_less c.args.network.now.sound.arcs c.loop-arc.invariant c.in-Some.is c.next-arc.result
+    c.next-arc.ensures
 
 pub loop-arc-preserved : goal.loop-arc-preserved
 loop-arc-preserved c =
-    follow_one c.args.network.now.region.sound.arcs c.loop-arc.invariant c.in-Some.is c.requires.n_in_bounds.1 c.head.result c.head.ensures.value c.next-arc.ensures
-    c.reach.auto.work c.reach.ensures.guided_after c.reach.ensures.reached
+    follow_one c.args.network.now.sound.arcs c.loop-arc.invariant c.in-Some.is
+    c.requires.u_in_bounds.1 c.head.result c.head.ensures.value c.next-arc.ensures
+    c.reach.auto.work c.reach.ensures.guided_after (rw c.weight.ensures at c.reach.ensures.reached)
 
 pub returns-clause-relaxed : goal.returns-clause-relaxed
-returns-clause-relaxed c = follow_all c.args.network.now.region.sound.arcs c.loop-arc.invariant c.in_default.is
+returns-clause-relaxed c =
+    follow_all c.args.network.now.sound.arcs c.loop-arc.invariant c.in_default.is

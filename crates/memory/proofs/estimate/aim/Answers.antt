@@ -1,6 +1,5 @@
 use mathlib.Core.Path.{ap₂, ◌∙◌}
 use borrow.Author.Tests.{ne_eqb}
-use Rattle.meaning.specs.Region.{tables_of}
 use Rattle.memory.specs.Memory.{rival_of}
 use Rattle.memory.proofs.Closest.{no_site}
 use Rattle.memory.proofs.estimate.aim.Goals as goal
@@ -13,5 +12,7 @@ returns c =
     ∙ ap₂ rival_of e
     (elim c.if-line-eq0.branch [
       | then-line-eq0 w ↦ w.site-is ∙ w.is_site-site.ensures
-      | else-line-eq0 w ↦ w.site-is ∙ ne_eqb _ _ w.if-line-eq0.false ∙ no_site (tables_of c.args.r.now.tables) c.args.work.now c.args.v c.requires.untaken (λ z. w.if-line-eq0.false (e ∙ z))
+      | else-line-eq0 w ↦ w.site-is ∙ ne_eqb _ _ w.if-line-eq0.false
+          ∙ no_site c.args.r.now c.args.work.now c.args.v c.requires.untaken
+          (λ z. w.if-line-eq0.false (e ∙ z))
     ])

@@ -3,4 +3,4 @@ use Rattle.memory.proofs.Closest.{site_among}
 use Rattle.memory.proofs.estimate.is_site.Goals as goal
 
 pub returns : goal.returns
-returns c = c.contains.ensures.value ∙ site_among c.args.r.now.sound.ground c.args.v
+returns c = rw (← c.r.view_is) (c.contains.ensures.value ∙ site_among c.r.invariant.ground c.args.v)

@@ -11,24 +11,32 @@ loop-j-init c = (refl, omega arith)
 pub loop-j-preserved : goal.loop-j-preserved
 loop-j-preserved c =
     let l = c.loop-j in
-    least_next c.args.r.now.sound.ground c.requires.aims c.args.v l.j c.requires.v_in_bounds c.loop-j-test.true l.invariant.0 l.invariant.1
-    c.closer-best.ensures
+    rw (← c.r.view_is)
+    (least_next c.r.invariant.ground (rw (← c.r.view_is) at c.requires.aims) c.args.v l.j
+    (rw (← c.r.view_is) at c.requires.v_in_bounds) c.loop-j-test.true
+    (rw (← c.r.view_is) at l.invariant.0) (rw (← c.r.view_is) at l.invariant.1)
+    c.closer-best.ensures)
 
 pub returns-then-best-eq-BEYOND : goal.returns-then-best-eq-BEYOND
 unfolding line_to
 returns-then-best-eq-BEYOND c =
     let l = c.loop-j in
-    let i : l.j ≡ c.args.r.now.tables.s = omega arith in
-    (rw i at (line_none l.best _ l.invariant.0 l.invariant.1 c.if-best-eq-BEYOND.true), omega arith)
+    let all : l.j ≡ c.args.r.now.s = rw (← c.r.view_is) (omega arith) in (
+      rw all at (line_none l.best _ l.invariant.0 l.invariant.1 c.if-best-eq-BEYOND.true),
+      omega arith,
+    )
 
 pub overflow_cast-result : goal.overflow_cast-result
 overflow_cast-result c =
     let l = c.loop-j in
-    omega (arith, (line_found _ l.invariant.0 l.invariant.1 c.if-best-eq-BEYOND.false c.root.ensures).1)
+    omega (
+      arith,
+      (line_found _ l.invariant.0 l.invariant.1 c.if-best-eq-BEYOND.false c.root.ensures).1,
+    )
 
 pub returns : goal.returns
 unfolding line_to
 returns c =
     let l = c.loop-j in
-    let i : l.j ≡ c.args.r.now.tables.s = omega arith in
-    rw i at (line_found _ l.invariant.0 l.invariant.1 c.if-best-eq-BEYOND.false c.root.ensures)
+    let all : l.j ≡ c.args.r.now.s = rw (← c.r.view_is) (omega arith) in
+    rw all at (line_found _ l.invariant.0 l.invariant.1 c.if-best-eq-BEYOND.false c.root.ensures)
