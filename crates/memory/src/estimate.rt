@@ -23,20 +23,15 @@ pub struct Aims {
 
 impl Aims {
     // While no node is taken, each site stands where it is.
-    pub fn gather(r: &Region) -> Aims
-        ensures { (w : List ℕ) → NoneTaken r.now.n w → SideBySide r.now w result.xs result.ys }
+    pub fn gather(&mut self, r: &Region)
+        ensures { (w : List ℕ) → NoneTaken r.now.n w → SideBySide r.now w self.new.xs self.new.ys }
     {
         let t = r.tables;
-        let mut aims = Aims {
-            xs: [0; SITES_MOST],
-            ys: [0; SITES_MOST],
-        };
         for j in 0..t.s {
             let node = t.sites[j] as usize - 1;
-            aims.xs[j] = t.xs[node];
-            aims.ys[j] = t.ys[node];
+            self.xs[j] = t.xs[node];
+            self.ys[j] = t.ys[node];
         }
-        aims
     }
 
     // The site v, which was taken, is put farther off than any node is.

@@ -6,7 +6,9 @@
 ghost use Rattle.std.specs.Prelude.{◌≤◌, length, take};
 ghost use Rattle.std.specs.Io.KnownBytes.{Consumes};
 
-use meaning::{ARCS_MOST, Counts, NODES_MOST, PANEL_K, Refusal, SITES_MOST, TEXT_MOST, Tables, Tally};
+use meaning::{
+    ARCS_MOST, Counts, NODES_MOST, PANEL_K, Refusal, SITES_MOST, TEXT_MOST, Tables, Tally,
+};
 use std::{fmt, io};
 
 // Room for a text: one byte more than a text may have, so that a longer one is refused and not cut.

@@ -55,7 +55,7 @@ pub fn start(r: &Region, work: &mut [u32], guide: &mut Guide, q: usize)
 {
     let n = r.nodes();
     memory::clear(work, n);
-    guide.aims = Aims::gather(r);
+    guide.aims.gather(r);
     let rival = memory::aim(r, work, &guide.aims, q);
     work[q] = 1;
     work[n + q] = rival;

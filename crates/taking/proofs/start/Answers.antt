@@ -22,7 +22,7 @@ none c =
 
 pub aim-rival-requires-clause-aims : goal.aim-rival-requires-clause-aims
 aim-rival-requires-clause-aims c =
-    c.gather-guide.ensures _ (none (goal.at.aim-rival-requires-clause-aims c).After-clear)
+    c.gather.ensures _ (none (goal.at.aim-rival-requires-clause-aims c).After-clear)
 
 pub replay-requires-clause-but_for_v : goal.replay-requires-clause-but_for_v
 replay-requires-clause-but_for_v c =
@@ -41,7 +41,7 @@ returns-clause-guided c =
     (bare c.args.q c.requires.q_in_bounds.1) (omega (arith, c.aim-rival.ensures)) in
     record {
       aims = aims_same {w = c.clear.new.work} c.nodes-n.ensures.sound.ground
-          (c.gather-guide.ensures _ bare) (rw n same);
+          (c.gather.ensures _ bare) (rw n same);
       tree = rw (← n) c.replay.ensures;
     }
 
