@@ -76,8 +76,3 @@ module _ {n : ℕ} {w r₀ : List ℕ} {v at end : ℕ} {r : List ℕ} {here pla
         go : (x : ℕ) → x ≤ n → unwrap_or (place_of x) here < n
         go zero h = k.inside
         go (suc u) h = omega arith
-
-  pub filled_end : place ≤ at → r ≡ sets r₀ at (map suc (way_in n w v))
-  filled_end h =
-      let d : place ≡ at = omega (arith, k.low) in
-      rw (k.whole h, ← d) k.routes_are

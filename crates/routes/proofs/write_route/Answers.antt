@@ -1,7 +1,7 @@
 use Prim.Native.Nat.{◌≤◌}
 use lib.ListN.{length}
 use native.Mathlib.Omega.{arith}
-use Rattle.routes.proofs.Route.{filled_start, filled_size, filled_most, filled_on, filled_end}
+use Rattle.routes.proofs.Route.{filled_start, filled_size, filled_most, filled_on}
 use Rattle.routes.proofs.Ways.{way_most}
 use Rattle.routes.proofs.write_route.Goals as goal
 use Rattle.routes.proofs.write_route.Goals.{In-loop-place}
@@ -12,8 +12,7 @@ inside c =
     omega (
       arith,
       filled_most c.loop-place.invariant c.requires.linked,
-      filled_size
-          c.loop-place.invariant,
+      filled_size c.loop-place.invariant,
     )
 
 pub overflow_add-end : goal.overflow_add-end
@@ -40,6 +39,3 @@ pub loop-place-preserved : goal.loop-place-preserved
 loop-place-preserved c =
     filled_on c.loop-place.invariant c.requires.linked _ (omega arith) (omega arith) _
     (rw c.before-in-loop-place.ensures at c.unwrap_or-here.ensures)
-
-pub returns-clause-routes_after : goal.returns-clause-routes_after
-returns-clause-routes_after c = filled_end c.loop-place.invariant (omega arith)

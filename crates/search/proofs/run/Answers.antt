@@ -3,7 +3,8 @@ use native.Mathlib.Omega.{arith}
 use lib.ListN.{length}
 use Rattle.search.specs.Run.{Ran}
 use Rattle.search.proofs.Checked.{query_low, query_below}
-use Rattle.search.proofs.Runs.{begun, aiming, in_bounds, bounded, opened, stepped, few_taken, stopped}
+use Rattle.search.proofs.Runs.{begun, aiming, in_bounds, bounded, opened}
+use Rattle.search.proofs.Runs.{stepped, few_taken, stopped}
 use Rattle.search.proofs.run.Goals as goal
 use Rattle.search.proofs.run.Goals.{After-list-sites}
 
@@ -35,14 +36,12 @@ take-site-requires-clause-open_site c =
 pub list-sites-requires-clause-v_in_bounds : goal.list-sites-requires-clause-v_in_bounds
 list-sites-requires-clause-v_in_bounds c =
     let here = in_bounds c.requires.passed c.loop-u.invariant.ran c.in-Some.ensures.picked in
-    let kept = c.take-site.auto.work in
     omega (arith, here.1)
 
 step : (c : After-list-sites)
     → Ran c.args.network.now.region c.args.query c.args.k (c.loop-u.taken + 1) c.args.work.now
-    c.args.listed.now c.args.lengths.now
-    c.take-site.new.work c.list-sites.new.listed c.list-sites.new.lengths c.list-sites.result
-    (c.loop-u.taken + 1)
+    c.args.listed.now c.args.lengths.now c.take-site.new.work c.list-sites.new.listed
+    c.list-sites.new.lengths c.list-sites.result (c.loop-u.taken + 1)
 step c =
     let picks = c.in-Some.ensures.picked in
     let wanted = picks.wanted in

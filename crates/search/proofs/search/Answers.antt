@@ -19,9 +19,8 @@ run-tally-requires-clause-room c =
 -- the run is over the lent tables
 ran : (c : After-run-tally)
     → Ran (tables_of c.args.t.now) c.args.query c.args.k c.args.t.now.n c.args.work.now
-    c.args.listed.now c.args.lengths.now
-    c.run-tally.new.work c.run-tally.new.listed c.run-tally.new.lengths c.run-tally.result.sites
-    c.run-tally.result.taken
+    c.args.listed.now c.args.lengths.now c.run-tally.new.work c.run-tally.new.listed
+    c.run-tally.new.lengths c.run-tally.result.sites c.run-tally.result.taken
 ran c = rw c.link-network.ensures at c.run-tally.ensures
 
 pub write_routes-requires-clause-leads : goal.write_routes-requires-clause-leads

@@ -2,9 +2,11 @@ use mathlib.Core.Path.{sym, ◌∙◌}
 use Rattle.meaning.proofs.Scans.{First}
 use Rattle.memory.specs.Memory.{key_at}
 use Rattle.memory.specs.Tree.{open_at}
-use Rattle.taking.proofs.Choosing.{top_is, open_not_taken, chosen_none, chosen_node, chosen_exact, raised, fewer, held}
+use Rattle.taking.proofs.Choosing.{top_is, open_not_taken, held, raised, fewer}
+use Rattle.taking.proofs.Choosing.{chosen_none, chosen_node, chosen_exact}
 use Rattle.taking.proofs.choose.Goals as goal
-use Rattle.taking.proofs.choose.Goals.{In_ok-v, Else-fresh, then-not-missed-via-then-not-missed, then-not-missed-via-else-not-missed+then-fresh}
+use Rattle.taking.proofs.choose.Goals.{In_ok-v, then-not-missed-via-then-not-missed}
+use Rattle.taking.proofs.choose.Goals.{then-not-missed-via-else-not-missed+then-fresh}
 
 -- the node at the top
 top : (c : In_ok-v)

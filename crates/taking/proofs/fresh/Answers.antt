@@ -22,6 +22,3 @@ returns-clause-guided_after c = record {
       (same (goal.at.returns-clause-guided_after c).After-replay);
   tree = rw (← c.nodes-n.ensures.count) c.replay.ensures;
 }
-
-pub returns-clause-same_taken : goal.returns-clause-same_taken
-returns-clause-same_taken c = same (goal.at.returns-clause-same_taken c).After-replay

@@ -11,11 +11,11 @@ loop-j-init c = (refl, omega arith)
 pub loop-j-preserved : goal.loop-j-preserved
 loop-j-preserved c =
     let l = c.loop-j in
-    rw (← c.r.view_is)
-    (least_next c.r.invariant.ground (rw (← c.r.view_is) at c.requires.aims) c.args.v l.j
-    (rw (← c.r.view_is) at c.requires.v_in_bounds) c.loop-j-test.true
-    (rw (← c.r.view_is) at l.invariant.0) (rw (← c.r.view_is) at l.invariant.1)
-    c.closer-best.ensures)
+    let is = c.r.view_is in
+    rw (← is)
+    (least_next c.r.invariant.ground (rw (← is) at c.requires.aims) c.args.v l.j
+    (rw (← is) at c.requires.v_in_bounds) c.loop-j-test.true (rw (← is) at l.invariant.0)
+    (rw (← is) at l.invariant.1) c.closer-best.ensures)
 
 pub returns-then-best-eq-BEYOND : goal.returns-then-best-eq-BEYOND
 unfolding line_to
