@@ -49,7 +49,8 @@ impl Winners {
         }
     }
 
-    // The open node with the least key; among equals the lower number.
+    // The open node with the least key; among equals the lower number. Of how many nodes there are
+    // only the contract speaks.
     pub fn first_open(&self, n: usize) -> Option<usize>
         requires { 1 ≤ n }
         ensures { Topped n self.now result }
