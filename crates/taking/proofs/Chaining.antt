@@ -73,12 +73,12 @@ pub record Linking (t : Tables) (starts nexts : List ℕ) (left : ℕ) : Type 0 
   pub first : (v : ℕ) → v < t.n → get_or starts v 0 ≡ seek t.tails (suc v) left (t.m - left)
   pub next : (i : ℕ) → left ≤ i → i < t.m → get_or nexts i 0 ≡ seek_next t i
 
-pub link_none : (t : Tables) (starts nexts : List ℕ) → t.n ≤ length starts → t.m ≤ length nexts → Unlinked starts → Linking t starts nexts t.m
+pub link_none : (t : Tables) (starts nexts : List ℕ) → t.n ≤ length starts → t.m ≤ length nexts → Unlinked t.n starts → Linking t starts nexts t.m
 unfolding seek
 link_none t starts nexts l h bare = record {
   start_room = l;
   next_room = h;
-  first = λ v k. let z : t.m - t.m ≡ 0 = omega arith in rw z (bare v);
+  first = λ v k. let z : t.m - t.m ≡ 0 = omega arith in rw z (bare v k);
   next = λ i k h. absurd (omega arith);
 }
 

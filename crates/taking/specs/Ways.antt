@@ -27,8 +27,8 @@ abbrev pub seek_next : Tables → ℕ → ℕ
 seek_next t i = seek t.tails (get_or t.tails i 0) (suc i) (t.m - suc i)
 
 -- no arc is linked
-abbrev pub Unlinked : List ℕ → Type 0
-Unlinked starts = (v : ℕ) → get_or starts v 0 ≡ 0
+abbrev pub Unlinked : ℕ → List ℕ → Type 0
+Unlinked n starts = (v : ℕ) → v < n → get_or starts v 0 ≡ 0
 
 -- the first arc of each node, and after each arc the next with the same tail
 pub record Linked (t : Tables) (starts nexts : List ℕ) : Type 0 where

@@ -1,5 +1,5 @@
 // The region of a search with the arcs of each node in a chain, in the order of the table.
-ghost use Rattle.std.specs.Prelude.{◌≡◌, ◌<◌};
+ghost use Rattle.std.specs.Prelude.{◌≡◌, ℕ, ◌<◌};
 ghost use Rattle.meaning.specs.Region.{region_of};
 ghost use Rattle.memory.specs.Memory.{place_of};
 ghost use Rattle.memory.specs.Region.{Sound};
@@ -19,7 +19,7 @@ pub struct Chains {
 impl Chains {
     // No arc is linked.
     pub fn new() -> Chains
-        ensures { Unlinked result.starts }
+        ensures { (n : ℕ) → Unlinked n result.starts }
     {
         Chains {
             starts: [0; NODES_MOST],
@@ -41,7 +41,7 @@ pub struct Network<'a> {
 impl<'a> Network<'a> {
     // The last arc is linked first.
     pub fn link(region: Region<'a>, chains: &'a mut Chains) -> Self
-        requires { Unlinked chains.old.starts }
+        requires { Unlinked region.n chains.old.starts }
         ensures { result.region ≡ region.entry }
     {
         let t = region.tables;

@@ -2,4 +2,4 @@ use Rattle.taking.proofs.Parents.{blank}
 use Rattle.taking.proofs.network.Chains.new.Goals as goal
 
 pub returns : goal.returns
-returns c = λ v. rw blank
+returns c = λ n v l. rw blank

@@ -5,7 +5,7 @@ use Rattle.taking.proofs.network.Network.link.Goals as goal
 pub loop-i-init : goal.loop-i-init
 loop-i-init c =
     link_none _ _ _ (omega (arith, c.region.invariant.few_nodes))
-    (omega (arith, c.region.invariant.few_arcs)) c.requires
+    (omega (arith, c.region.invariant.few_arcs)) (rw (← c.region.view_is) at c.requires)
 
 pub loop-i-preserved : goal.loop-i-preserved
 loop-i-preserved c =
