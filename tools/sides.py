@@ -68,7 +68,7 @@ def code(commit):
                 of = impl.group(1) + "::"
             elif line == "}":
                 of = ""
-            public = re.match(r"\s*pub(?:\(crate\))? (?:extern \"C\" )?(fn|struct|enum|const|type) (\w+)", line)
+            public = re.match(r"\s*pub (?:extern \"C\" )?(fn|struct|enum|const|type) (\w+)", line)
             if public:
                 kind, name = public.groups()
                 block = [line]
@@ -95,7 +95,8 @@ def statements(commit, folder):
         block, name = [], None
         for line in text.split("\n") + [""]:
             start = re.match(r"\s*(?:(?:abbrev|unfoldable) )?pub (?:(record|data|abbrev) )?(\S+)", line)
-            if start and not line.startswith("    ") and not re.match(r"\s*pub \S+ : ", line) or start and folder == "proofs" and not line.startswith("    "):
+            field = block and re.match(r"\s*pub (record|data) ", block[0]) and len(line) - len(line.lstrip()) > len(block[0]) - len(block[0].lstrip())
+            if start and not field and not line.startswith("    "):
                 if start.group(2) in ("mod", "use"):
                     continue
                 name, block = f"{crate} {start.group(2)}", [line]
@@ -108,7 +109,9 @@ def statements(commit, folder):
 
 
 def stated(text):
-    """the statement of a lemma, without its proof"""
+    """the statement of a lemma, without its proof; a definition whole"""
+    if re.match(r"\s*(?:abbrev |unfoldable )?pub (?:record|data) |\s*(?:abbrev|unfoldable) pub ", text):
+        return text
     out = []
     for i, line in enumerate(text.split("\n")):
         if i and not line.startswith(" ") or i and re.match(r"\s*(unfolding|where)\b", line):

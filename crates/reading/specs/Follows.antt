@@ -96,9 +96,10 @@ Follows R at r s rows (stop fault) = r ≡ Err fault
 abbrev pub Answers : Reader → List Row → Line → Test → Reader → List Row → Type 0
 Answers s rows line r s' rows' = (p : Progress) → Keeps s rows p → Follows s.rules s.at r s' rows' (step s.rules p line)
 
--- a problem line touches no row
-abbrev pub AnswersProblem : Reader → Counts → Test → Reader → Type 0
-AnswersProblem s c r s' = (rows : List Row) → Answers s rows (Problem c) r s' rows
+-- a problem line touches neither marks nor rows
+pub record AnswersProblem (s : Reader) (c : Counts) (r : Test) (s' : Reader) : Type 0 where
+  pub marks_stay : s'.marks ≡ s.marks
+  pub answers : (rows : List Row) → Answers s rows (Problem c) r s' rows
 
 -- the line that starts where the state says
 abbrev pub AnswersNext : List ℕ → Reader → List Row → Test → Reader → List Row → Type 0
@@ -106,6 +107,6 @@ AnswersNext text s rows r s' rows' =
     let said = said_at s.rules.kind s.rules.given text s.at in
     Answers (moved_to s said.next) rows said.line r s' rows'
 
--- at the end of the text
+-- at the end of the text, by the counts alone
 abbrev pub Finishes : Reader → Result Counts Refusal → Type 0
-Finishes s r = (rows : List Row) (p : Progress) → Keeps s rows p → r ≡ answered (finish p)
+Finishes s r = (p : Progress) → s.counts ≡ counts_since p → s.count ≡ length (entries_since p) → r ≡ answered (finish p)
