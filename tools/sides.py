@@ -28,6 +28,40 @@ MOVED = {
     "meaning else_zero": "meaning then_fine",
 }
 
+# what states now what the lemmas of a file stated that are gone
+STATED = {
+    ("grammar", "Laws"): "the contracts of `problem_of`, `data_of` and `line_of`",
+    ("grammar", "Lines"): "`DigitsSaid`, `SignedRead` and the contract of `numbers`; `signed_minus`, `sofar_ended`",
+    ("inspect", "Faults"): "the contract of `first_fault`",
+    ("inspect", "Laws"): "`Long` (specs/Entries), `points_placed` (Placed), and `sound` of `search`'s Checked",
+    ("inspect", "Order"): "the contracts of `inspect` and `Entries::check`",
+    ("inspect", "Single"): "the contracts of `point_fault` and `arc_fault`; what stays is in Sites",
+    ("meaning", "Passed"): "`not_fine`, `passed`, `then_fine`, `at_fine` (Tests)",
+    ("meaning", "Places"): "`numbered`, of any `Fault`",
+    ("meaning", "Tests"): "`then_fine`, `then_later`, `then_first`",
+    ("memory", "Aims"): "`aims_kept` (Columns)",
+    ("memory", "Cleared"): "the contracts of std's `fill` and of `clear`",
+    ("memory", "Closest"): "`site_among`, and the contract of `line_from`",
+    ("panel", "Codes"): "`ReadFits`, `AnswerFits`, `RefusalFits`, `CountsFit` themselves",
+    ("panel", "Spans"): "`span_stops` of `meaning`, and the contract of `wick_route`",
+    ("readers", "Outcomes"): "the contracts of the three readers; `front_kept`, `node_kept` of `meaning`",
+    ("readers", "Rows"): "`ArcRows`, `PointRows`, and the contracts of the three functions that write",
+    ("reading", "Bits"): "std's `and_mask`, and the contracts of `Marks`",
+    ("reading", "Lines"): "`lines_at`, `line_inside` of `text`; the contracts of `said_at` and `judged`",
+    ("reading", "Sizes"): "the contract of std's `unsigned_abs`",
+    ("reading", "Steps"): "the contracts of `Reader`'s methods",
+    ("routes", "Lines"): "the field `linked` of `Leads`",
+    ("routes", "Route"): "`filled_on`, and the contract of `write_route`",
+    ("search", "Checked"): "`sound` (Checked): `Sound` of `memory`",
+    ("search", "Outcome"): "the contract of `search`",
+    ("search", "Runs"): "`Going`, the invariant of `run`",
+    ("straight", "Gaps"): "std's contracts of `-` and `unsigned_abs`; `sum_is`, `sum_small` (Laws)",
+    ("straight", "Laws"): "`back_near`",
+    ("taking", "Chaining"): "`Sound` of `memory`, the arrays' types and `Unlinked`",
+    ("taking", "Parents"): "`Holds.leads` of `memory`",
+    ("text", "Laws"): "the contracts of the crate's functions; `parted`, `line_inside`; std's `prefix_len-le-length`",
+}
+
 
 def git(*words):
     return subprocess.run(["git", *words], check=True, capture_output=True, text=True).stdout
@@ -136,11 +170,51 @@ def show(title, old, new, kind):
         print("New: " + ", ".join(f"`{k}`" for k in fresh) + ".")
 
 
+def lemmas(commit):
+    """(crate, file) -> the names that the files of proofs/ declare, without fields of records"""
+    found = {}
+    for path, text in files(commit, r"crates/\w+/proofs/\w+\.antt$"):
+        names, fields = found.setdefault((path.split("/")[1], path.split("/")[-1][:-5]), []), False
+        for line in text.split("\n"):
+            start = re.match(r" {0,4}(?:pub )?(?:abbrev |unfoldable )?(?:pub )?(record |data )?([\w'→-]+)(?: [({].*[)}])? : ", line)
+            if start and not fields and start.group(2) not in ("go", "by"):
+                names.append(start.group(2))
+            fields = bool(line.strip()) and (fields or bool(start and start.group(1)))
+    return found
+
+
+def functions(commit):
+    found = {}
+    for path, text in files(commit, r"crates/\w+/src/.*\.rt$"):
+        names = re.findall(r"\bfn (\w+)", re.sub(r"//[^\n]*", "", text))
+        found.setdefault(path.split("/")[1], []).extend(names)
+    return found
+
+
+def gone(commit):
+    print("\n### Functions and lemmas that are gone by their old names\n\n| crate | functions of src/ |\n|---|---|")
+    now = functions(None)
+    for crate, names in functions(commit).items():
+        left = [n for n in dict.fromkeys(names) if n not in now.get(crate, ())]
+        if left:
+            print(f"| `{crate}` | {', '.join(f'`{n}`' for n in left)} |")
+    print("\n| crate | file of proofs/ | lemmas | what states it now |\n|---|---|---|---|")
+    stand = {}
+    for (crate, _), names in lemmas(None).items():
+        stand.setdefault(crate, set()).update(names)
+    for (crate, file), names in lemmas(commit).items():
+        left = [n for n in dict.fromkeys(names) if n not in stand.get(crate, ())]
+        if left:
+            now = STATED.get((crate, file), "the contracts of the functions of that name or step, which the check proves without it")
+            print(f"| `{crate}` | {file} | {', '.join(f'`{n}`' for n in left)} | {now} |")
+
+
 def main(commit):
     show("Public signatures, clauses, types and invariants", code(commit), code(None), "rust")
     show("Definitions", statements(commit, "specs"), statements(None, "specs"), "antt")
     both = [{k: (x, stated(t)) for k, (x, t) in statements(c, "proofs").items() if k.startswith("meaning ")} for c in (commit, None)]
     show("Theorems and lemmas of `meaning`", *both, "antt")
+    gone(commit)
 
 
 main(*sys.argv[1:])
