@@ -1,6 +1,8 @@
 #!/usr/bin/env python3
 """places.py [COMMIT] [POINT..]: the places of the points of docs/DESIGN-PASS.md in crates/*/src, of a commit, or of the
-working tree where none is named. Prints for each point how many there are, and with a point's number its places."""
+working tree where none is named. Prints for each point how many there are, and with a point's number its places; then some
+of them counted another way."""
+import difflib
 import re
 import subprocess
 import sys
@@ -160,6 +162,37 @@ def points(files):
     yield 9, "functions of 40 lines or more, the contract counted", lines
 
 
+def without_clauses(text):
+    return re.sub(r"\b(?:requires|ensures)\b[^{]*\{(?:[^{}]|\{[^{}]*\})*\}", "", bare(text))
+
+
+def alike(files):
+    """groups of functions of 25 tokens or more that share nine in ten of them"""
+    listed = [(f, re.findall(r"\w+|[^\w\s]", f.parameters + f.body)) for f in functions(files) if "extern" not in f.head]
+    listed = [(f, tokens) for f, tokens in listed if len(tokens) >= 25]
+    groups = []
+    for f, tokens in listed:
+        for group in groups:
+            match = difflib.SequenceMatcher(None, group[0][1], tokens, False)
+            if match.real_quick_ratio() >= 0.9 and match.quick_ratio() >= 0.9 and match.ratio() >= 0.9:
+                group.append((f, tokens))
+                break
+        else:
+            groups.append([(f, tokens)])
+    return [[f.place() for f, _ in group] for group in groups if len(group) > 1]
+
+
+def another_way(files):
+    code = "\n".join(without_clauses(text) for _, text in files)
+    groups = alike(files)
+    yield "1. tests against 0", len(re.findall(r"[=!]= 0\b", code))
+    yield "1. uses of a variant of an own enum that is an Option or a Result", len(re.findall(
+        r"\b(?:Number::(?:Value|NoNumber)|Signed::(?:At|NoCoordinate)|Read::(?:Refused|Accepted)|Verdict::(?:Fine|Faulty)|Answer::(?:Denied|Listed)|Piece::(?:Line|End)|Next::(?:Node|Nothing))\b", code))
+    yield "2. functions that share nine in ten of their tokens with another", sum(map(len, groups))
+    yield "3. steps of a counter by one", len(re.findall(r"[+-]= 1\b", code))
+    yield "4. casts by `as`", len(re.findall(r"\bas [ui](?:8|16|32|64|size)\b", code))
+
+
 def main(words):
     commit = words.pop(0) if words and not re.fullmatch(r"\d", words[0]) else None
     files = list(sources(commit))
@@ -168,6 +201,9 @@ def main(words):
         if str(point) in words:
             for place in places:
                 print(f"    {place}")
+    print("\nCounted another way:")
+    for name, count in another_way(files):
+        print(f"{name}: {count}")
 
 
 main(sys.argv[1:])
