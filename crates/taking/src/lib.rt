@@ -123,7 +123,8 @@ fn reach(r: &Region, work: &mut [u32], guide: &mut Guide, u: usize, h: usize, at
     }
 }
 
-// The heads of u's arcs are opened or shortened, in the order of the table.
+// The heads of u's arcs are opened or shortened, in the order of the table: along u's chain, which
+// only the network can follow.
 fn relax(network: &Network, work: &mut [u32], guide: &mut Guide, u: usize)
     requires u_in_bounds { (4 * network.now.region.n ≤ length work.old)
         × (u < network.now.region.n) }
@@ -203,7 +204,7 @@ fn fresh(r: &Region, work: &mut [u32], guide: &mut Guide, v: usize) -> bool
 
 // The open node to be taken next. Taking sites only raises estimates, so one made earlier is at
 // most the present one: only of the node at the tree's top it is made anew, and only where a site
-// has been taken (missed).
+// has been taken (missed). Tried again until the node at the top has its present estimate.
 pub fn choose(r: &Region, work: &mut [u32], guide: &mut Guide, missed: bool) -> Option<usize>
     requires guided { Guided r.now work.old guide.old }
     requires aiming { Aiming r.now work.old }
