@@ -78,48 +78,48 @@ fn lower(r: &Region, work: &mut [u32], u: usize, h: usize)
     }
 }
 
-// An open node has a shorter length by way of u.
-fn shorten(r: &Region, work: &mut [u32], tree: &mut Winners, u: usize, h: usize, at: u32)
+// An open node has a shorter length by way of u: one less than len, as work stores it.
+fn shorten(r: &Region, work: &mut [u32], tree: &mut Winners, u: usize, h: usize, len: u32)
     requires room { 4 * r.now.n ≤ length work.old }
     requires tail_is_node { u < r.now.n }
     requires head_is_node { h < r.now.n }
-    requires shorter { at < get_or work.old h 0 }
+    requires shorter { len < get_or work.old h 0 }
     requires tree { Tree r.now.n work.old tree.old }
     ensures tree_after { Tree r.now.n work.new tree.new }
     ensures same_taken { SameTaken r.now.n work.old work.new }
-    ensures arrived { Arrived r.now.n u h at work.old work.new }
+    ensures arrived { Arrived r.now.n u h len work.old work.new }
 {
     let n = r.nodes();
     let is_open = work[n + h] != 0;
     if is_open {
-        work[h] = at;
+        work[h] = len;
         work[n + n + h] = (u + 1) as u32;
         tree.replay(work, n, h);
     }
 }
 
-// An arc of u reaches node h, at one more than the length: h is opened, or shortened, or u comes
-// before it as the lower of two.
-fn reach(r: &Region, work: &mut [u32], guide: &mut Guide, u: usize, h: usize, at: u32)
+// An arc of u reaches node h, at one less than len: h is opened, or shortened, or u comes before it as
+// the lower of two.
+fn reach(r: &Region, work: &mut [u32], guide: &mut Guide, u: usize, h: usize, len: u32)
     requires room { 4 * r.now.n ≤ length work.old }
     requires tail_is_node { u < r.now.n }
     requires head_is_node { h < r.now.n }
     requires guided { Guided r.now work.old guide.old }
     ensures guided_after { Guided r.now work.new guide.new }
-    ensures reached { Reached r.now u h at work.old work.new }
+    ensures reached { Reached r.now u h len work.old work.new }
 {
     let n = r.nodes();
     let old = work[h];
     if old == 0 {
         let rival = memory::aim(r, work, &guide.aims, h);
-        work[h] = at;
+        work[h] = len;
         work[n + h] = rival;
         work[n + n + h] = (u + 1) as u32;
         guide.tree.replay(work, n, h);
-    } else if old == at {
+    } else if old == len {
         lower(r, work, u, h);
-    } else if at < old {
-        shorten(r, work, &mut guide.tree, u, h, at);
+    } else if len < old {
+        shorten(r, work, &mut guide.tree, u, h, len);
     }
 }
 
@@ -137,8 +137,8 @@ fn relax(network: &Network, work: &mut [u32], guide: &mut Guide, u: usize)
     let from = work[u];
     let mut arc = network.first(u);
     while let Some(i) = arc {
-        let at = from + network.weight(i);
-        reach(r, work, guide, u, network.head(i), at);
+        let len = from + network.weight(i);
+        reach(r, work, guide, u, network.head(i), len);
         arc = network.next(i);
     }
 }
