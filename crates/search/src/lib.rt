@@ -138,7 +138,11 @@ fn begin(ends: &[u16], rank: usize) -> usize
     requires { rank ≤ length ends.now }
     ensures { result ≡ begin_of ends.now rank }
 {
-    if 1 < rank { usize::from(ends[rank - 2]) } else { 0 }
+    if 1 < rank {
+        usize::from(ends[rank - 2])
+    } else {
+        0
+    }
 }
 
 // The route of a rank: the very stretch of the lent buffer where it was written.

@@ -78,7 +78,7 @@ fn lower(r: &Region, work: &mut [u32], u: usize, h: usize)
     }
 }
 
-// An open node has a shorter length by way of u: one less than len, as work stores it.
+// An open node has a shorter length by way of u, len - 1.
 fn shorten(r: &Region, work: &mut [u32], tree: &mut Winners, u: usize, h: usize, len: u32)
     requires room { 4 * r.now.n ≤ length work.old }
     requires tail_is_node { u < r.now.n }
@@ -98,8 +98,8 @@ fn shorten(r: &Region, work: &mut [u32], tree: &mut Winners, u: usize, h: usize,
     }
 }
 
-// An arc of u reaches node h, at one less than len: h is opened, or shortened, or u comes before it as
-// the lower of two.
+// An arc of u reaches node h at the length len - 1: h is opened, or shortened, or u comes before it
+// as the lower of two.
 fn reach(r: &Region, work: &mut [u32], guide: &mut Guide, u: usize, h: usize, len: u32)
     requires room { 4 * r.now.n ≤ length work.old }
     requires tail_is_node { u < r.now.n }
