@@ -12,12 +12,12 @@ use straight::Line;
 // loop over the sites would be a branch.
 const FAR: i32 = 1000000000;
 
-// One more than the square of any distance between nodes: what the least square starts at, a number
+// One more than the square of any distance between nodes: what the least square starts at. A number
 // for the same reason.
 const BEYOND: u64 = 320000000000000001;
 
-// The sites' coordinates side by side; a taken site is put far off. Two columns and not pairs, since
-// the loop over them is vectorized.
+// The sites' coordinates side by side; a taken site is put far off. Two columns and not pairs: the
+// loop over them is vectorized.
 #[derive(Drop)]
 pub struct Aims {
     pub xs: [i32; SITES_MOST],

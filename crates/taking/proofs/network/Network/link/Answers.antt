@@ -8,8 +8,9 @@ loop-i-init c =
     (omega (arith, c.region.invariant.few_arcs)) (rw (← c.region.view_is) at c.requires)
 
 pub loop-i-preserved : goal.loop-i-preserved
-loop-i-preserved c = rw c.from-node.ensures (
-    link_before c.loop-i.i c.loop-i-test.true c.loop-i.auto.i c.region.invariant.arcs
+loop-i-preserved c =
+    rw c.from-node.ensures
+    (link_before c.loop-i.i c.loop-i-test.true c.loop-i.auto.i c.region.invariant.arcs
     c.loop-i.invariant)
 
 pub invariant_of-result : goal.invariant_of-result
