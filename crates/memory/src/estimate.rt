@@ -8,13 +8,16 @@ use crate::Region;
 use meaning::SITES_MOST;
 use straight::Line;
 
-// Where a taken site is put: farther off than any node is.
+// Where a taken site is put: farther off than any node is. A number and not an Option, which in the
+// loop over the sites would be a branch.
 const FAR: i32 = 1000000000;
 
-// One more than the square of any distance between nodes.
+// One more than the square of any distance between nodes: what the least square starts at. A number
+// for the same reason.
 const BEYOND: u64 = 320000000000000001;
 
-// The sites' coordinates side by side; a taken site is put far off.
+// The sites' coordinates side by side; a taken site is put far off. Two columns and not pairs: the
+// loop over them is vectorized.
 #[derive(Drop)]
 pub struct Aims {
     pub xs: [i32; SITES_MOST],
@@ -27,8 +30,8 @@ impl Aims {
         ensures { (w : List ℕ) → NoneTaken r.now.n w → SideBySide r.now w self.new.xs self.new.ys }
     {
         let t = r.tables;
-        for j in 0..t.s {
-            let node = t.sites[j] as usize - 1;
+        for (j, &number) in t.sites[..t.s].iter().enumerate() {
+            let node = usize::from(number) - 1;
             self.xs[j] = t.xs[node];
             self.ys[j] = t.ys[node];
         }
@@ -41,7 +44,7 @@ impl Aims {
     {
         let t = r.tables;
         for j in 0..t.s {
-            let node = t.sites[j] as usize - 1;
+            let node = usize::from(t.sites[j]) - 1;
             if node == v {
                 self.xs[j] = FAR;
             }
@@ -74,7 +77,7 @@ fn closer(x: i32, y: i32, a: i32, b: i32, best: u64) -> u64
     ensures { result ≡ nearer x y a b best }
 {
     let square = straight::apart(x, a) + straight::apart(y, b);
-    if square < best { square } else { best }
+    square.min(best)
 }
 
 // Whether node v is a site.

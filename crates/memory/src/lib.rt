@@ -1,6 +1,12 @@
 // The work memory of a search: what stands where (specs/Memory, specs/Tree), the open node that
 // goes next, and the estimate of a node.
 //
+// A 0 in it means "not seen", "not open" or "none" and no entry is an Option, since C lends it as
+// numbers, and its first 4N entries are 0 when a search is over.
+//
+// A node's number is below the n of its region, as the clauses say: a type for such a number would
+// have to carry the region.
+//
 // The memory stays a lent slice, which each function takes beside n. A struct around it proves, but
 // holds a `&mut`: each function that writes would have to say that the struct keeps that slice, by
 // its ghost name, and its n, in place of the one fact that four quarters fit.
@@ -71,5 +77,5 @@ fn key(work: &[u32], n: usize, v: usize) -> u64
 {
     let rival = work[n + v] - 1;
     let site = rival % 2;
-    straight::total(road_at(work, n, v), Line(rival / 2)) * 2 + (site as u64)
+    straight::total(road_at(work, n, v), Line(rival / 2)) * 2 + u64::from(site)
 }

@@ -9,12 +9,13 @@ use meaning::NODES_MOST;
 use std::marker::Model;
 
 // No key is as large.
-const KEYS: u64 = 17179869184;
+const KEYS: u64 = 1 << 34;
 
 // More than any node's number, by which a rank tells equal keys apart.
-const NUMBERS: u64 = 65536;
+const NUMBERS: u64 = 1 << 16;
 
-// What a node stands in the tree with: the sooner it goes, the more; 0 where it isn't open.
+// What a node stands in the tree with: the sooner it goes, the more. A 0 means "not open", so that
+// the larger of two ranks is always the sooner; an Option would double the tree.
 fn rank(work: &[u32], n: usize, v: usize) -> u64
     requires { (4 * n ≤ length work.now) × ((v < n) × (n ≤ base.nodes)) }
     ensures { Ranked n work.now v result }
@@ -63,7 +64,7 @@ impl Winners {
     }
 
     // The leaf of node v, whose entries were written, and the places above it are settled anew, as
-    // far up as anything changes.
+    // far up as anything changes. The place above i is its half.
     pub fn replay(&mut self, work: &[u32], n: usize, v: usize)
         requires v_in_bounds { (4 * n ≤ length work.now) × (v < n) }
         requires but_for_v { But n work.now v self.old }

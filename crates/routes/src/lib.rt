@@ -58,7 +58,7 @@ pub fn write_routes(
 {
     let mut at = 0;
     for i in 0..count {
-        let number = listed[i] as usize;
+        let number = usize::from(listed[i]);
         let end = write_route(work, n, number - 1, routes, at);
         ends[i] = end as u16;
         at = end;

@@ -138,7 +138,11 @@ fn begin(ends: &[u16], rank: usize) -> usize
     requires { rank ≤ length ends.now }
     ensures { result ≡ begin_of ends.now rank }
 {
-    if 1 < rank { ends[rank - 2] as usize } else { 0 }
+    if 1 < rank {
+        usize::from(ends[rank - 2])
+    } else {
+        0
+    }
 }
 
 // The route of a rank: the very stretch of the lent buffer where it was written.
@@ -149,5 +153,5 @@ pub fn route<'a>(routes: &'a [u16], ends: &[u16], rank: usize) -> &'a [u16]
     if rank < 1 || ends.len() < rank {
         return &[];
     }
-    part(routes, begin(ends, rank), ends[rank - 1] as usize)
+    part(routes, begin(ends, rank), usize::from(ends[rank - 1]))
 }

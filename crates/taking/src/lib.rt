@@ -78,52 +78,53 @@ fn lower(r: &Region, work: &mut [u32], u: usize, h: usize)
     }
 }
 
-// An open node has a shorter length by way of u.
-fn shorten(r: &Region, work: &mut [u32], tree: &mut Winners, u: usize, h: usize, at: u32)
+// An open node has a shorter length by way of u, len - 1.
+fn shorten(r: &Region, work: &mut [u32], tree: &mut Winners, u: usize, h: usize, len: u32)
     requires room { 4 * r.now.n ≤ length work.old }
     requires tail_is_node { u < r.now.n }
     requires head_is_node { h < r.now.n }
-    requires shorter { at < get_or work.old h 0 }
+    requires shorter { len < get_or work.old h 0 }
     requires tree { Tree r.now.n work.old tree.old }
     ensures tree_after { Tree r.now.n work.new tree.new }
     ensures same_taken { SameTaken r.now.n work.old work.new }
-    ensures arrived { Arrived r.now.n u h at work.old work.new }
+    ensures arrived { Arrived r.now.n u h len work.old work.new }
 {
     let n = r.nodes();
     let is_open = work[n + h] != 0;
     if is_open {
-        work[h] = at;
+        work[h] = len;
         work[n + n + h] = (u + 1) as u32;
         tree.replay(work, n, h);
     }
 }
 
-// An arc of u reaches node h, at one more than the length: h is opened, or shortened, or u comes
-// before it as the lower of two.
-fn reach(r: &Region, work: &mut [u32], guide: &mut Guide, u: usize, h: usize, at: u32)
+// An arc of u reaches node h at the length len - 1: h is opened, or shortened, or u comes before it
+// as the lower of two.
+fn reach(r: &Region, work: &mut [u32], guide: &mut Guide, u: usize, h: usize, len: u32)
     requires room { 4 * r.now.n ≤ length work.old }
     requires tail_is_node { u < r.now.n }
     requires head_is_node { h < r.now.n }
     requires guided { Guided r.now work.old guide.old }
     ensures guided_after { Guided r.now work.new guide.new }
-    ensures reached { Reached r.now u h at work.old work.new }
+    ensures reached { Reached r.now u h len work.old work.new }
 {
     let n = r.nodes();
     let old = work[h];
     if old == 0 {
         let rival = memory::aim(r, work, &guide.aims, h);
-        work[h] = at;
+        work[h] = len;
         work[n + h] = rival;
         work[n + n + h] = (u + 1) as u32;
         guide.tree.replay(work, n, h);
-    } else if old == at {
+    } else if old == len {
         lower(r, work, u, h);
-    } else if at < old {
-        shorten(r, work, &mut guide.tree, u, h, at);
+    } else if len < old {
+        shorten(r, work, &mut guide.tree, u, h, len);
     }
 }
 
-// The heads of u's arcs are opened or shortened, in the order of the table.
+// The heads of u's arcs are opened or shortened, in the order of the table: along u's chain, which
+// only the network can follow.
 fn relax(network: &Network, work: &mut [u32], guide: &mut Guide, u: usize)
     requires u_in_bounds { (4 * network.now.region.n ≤ length work.old)
         × (u < network.now.region.n) }
@@ -136,8 +137,8 @@ fn relax(network: &Network, work: &mut [u32], guide: &mut Guide, u: usize)
     let from = work[u];
     let mut arc = network.first(u);
     while let Some(i) = arc {
-        let at = from + network.weight(i);
-        reach(r, work, guide, u, network.head(i), at);
+        let len = from + network.weight(i);
+        reach(r, work, guide, u, network.head(i), len);
         arc = network.next(i);
     }
 }
@@ -203,7 +204,7 @@ fn fresh(r: &Region, work: &mut [u32], guide: &mut Guide, v: usize) -> bool
 
 // The open node to be taken next. Taking sites only raises estimates, so one made earlier is at
 // most the present one: only of the node at the tree's top it is made anew, and only where a site
-// has been taken (missed).
+// has been taken (missed). Tried again until the node at the top has its present estimate.
 pub fn choose(r: &Region, work: &mut [u32], guide: &mut Guide, missed: bool) -> Option<usize>
     requires guided { Guided r.now work.old guide.old }
     requires aiming { Aiming r.now work.old }

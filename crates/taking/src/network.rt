@@ -9,7 +9,8 @@ use meaning::{ARCS_MOST, NODES_MOST};
 use memory::Region;
 
 // For each node one more than its first arc, and for each arc one more than the next with the same
-// tail; 0 where there is none.
+// tail; 0 where there is none. Numbers of entries, since there is no heap, and 0 for none, since an
+// Option<u16> takes twice the room.
 #[derive(Drop)]
 pub struct Chains {
     starts: [u16; NODES_MOST],
@@ -46,7 +47,7 @@ impl<'a> Network<'a> {
     {
         let t = region.tables;
         for i in (0..t.m).rev() {
-            let node = t.tails[i] as usize - 1;
+            let node = usize::from(t.tails[i]) - 1;
             chains.nexts[i] = chains.starts[node];
             chains.starts[node] = (i + 1) as u16;
         }
@@ -58,7 +59,7 @@ impl<'a> Network<'a> {
         requires { u < self.now.region.n }
         ensures { result ≡ place_of (seek_first self.now.region u) }
     {
-        (self.chains.starts[u] as usize).checked_sub(1)
+        usize::from(self.chains.starts[u]).checked_sub(1)
     }
 
     // The arc after arc i that leaves the same node.
@@ -66,7 +67,7 @@ impl<'a> Network<'a> {
         requires { i < self.now.region.m }
         ensures { result ≡ place_of (seek_next self.now.region i) }
     {
-        (self.chains.nexts[i] as usize).checked_sub(1)
+        usize::from(self.chains.nexts[i]).checked_sub(1)
     }
 
     // The node that arc i leads to.
@@ -75,8 +76,7 @@ impl<'a> Network<'a> {
         ensures value { result ≡ (region_of self.now.region).head i }
         ensures below { result < self.now.region.n }
     {
-        let r = &self.region;
-        r.tables.heads[i] as usize - 1
+        usize::from(self.region.tables.heads[i]) - 1
     }
 
     // How much arc i weighs.
@@ -84,7 +84,6 @@ impl<'a> Network<'a> {
         requires { i < self.now.region.m }
         ensures { result ≡ (region_of self.now.region).weight i }
     {
-        let r = &self.region;
-        r.tables.weights[i]
+        self.region.tables.weights[i]
     }
 }

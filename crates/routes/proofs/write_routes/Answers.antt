@@ -7,13 +7,14 @@ overflow_cast-ends c =
     omega (
       arith,
       lined_small c.requires.leads c.loop-i.invariant c.loop-i-test.true
-          c.write_route-end.result c.write_route-end.ensures.value,
+          c.write_route-end.result (rw c.from-number.ensures at c.write_route-end.ensures.value),
     )
 
 pub loop-i-preserved : goal.loop-i-preserved
 loop-i-preserved c =
     lined_on c.requires.leads c.loop-i.invariant c.loop-i-test.true c.write_route-end.result _
-    c.write_route-end.ensures.value c.write_route-end.ensures.routes_after
+    (rw c.from-number.ensures at c.write_route-end.ensures.value)
+    (rw c.from-number.ensures at c.write_route-end.ensures.routes_after)
 
 pub returns-clause-ends_after : goal.returns-clause-ends_after
 returns-clause-ends_after c =

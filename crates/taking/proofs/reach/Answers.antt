@@ -5,7 +5,7 @@ use Rattle.taking.proofs.reach.Goals as goal
 
 pub returns-then-old-eq0-clause-guided_after : goal.returns-then-old-eq0-clause-guided_after
 returns-then-old-eq0-clause-guided_after c =
-    let same = opened_taken c.args.r.now.n c.args.u c.args.h c.args.at c.aim-rival.result
+    let same = opened_taken c.args.r.now.n c.args.u c.args.h c.args.len c.aim-rival.result
     c.args.work.now c.requires.head_is_node (omega arith) c.if-old-eq0.true
     (omega (arith, c.aim-rival.ensures)) in
     record {
@@ -17,20 +17,20 @@ returns-then-old-eq0-clause-guided_after c =
 pub returns-then-old-eq0-clause-reached : goal.returns-then-old-eq0-clause-reached
 returns-then-old-eq0-clause-reached c =
     rw c.nodes-n.ensures.count
-    (opened _ c.args.u c.args.h c.args.at c.args.work.now c.nodes-n.ensures.sound.ground
+    (opened _ c.args.u c.args.h c.args.len c.args.work.now c.nodes-n.ensures.sound.ground
     c.requires.head_is_node c.if-old-eq0.true c.aim-rival.result c.aim-rival.ensures)
 
-pub returns-then-old-at-clause-reached : goal.returns-then-old-at-clause-reached
-returns-then-old-at-clause-reached c =
-    arrived_live _ c.args.u c.args.h c.args.at c.args.work.now _
-    (rw c.if-old-at.true at c.lower.ensures.arrived)
+pub returns-then-old-len-clause-reached : goal.returns-then-old-len-clause-reached
+returns-then-old-len-clause-reached c =
+    arrived_live _ c.args.u c.args.h c.args.len c.args.work.now _
+    (rw c.if-old-len.true at c.lower.ensures.arrived)
 
-pub returns-then-at-old-clause-reached : goal.returns-then-at-old-clause-reached
-returns-then-at-old-clause-reached c =
-    arrived_live _ c.args.u c.args.h c.args.at c.args.work.now _ c.shorten.ensures.arrived
+pub returns-then-len-old-clause-reached : goal.returns-then-len-old-clause-reached
+returns-then-len-old-clause-reached c =
+    arrived_live _ c.args.u c.args.h c.args.len c.args.work.now _ c.shorten.ensures.arrived
 
-pub returns-else-at-old-clause-reached : goal.returns-else-at-old-clause-reached
-returns-else-at-old-clause-reached c =
-    arrived_live _ c.args.u c.args.h c.args.at c.args.work.now _
-    (longer c.args.r.now.n c.args.u c.args.h c.args.at c.args.work.now c.requires.head_is_node
+pub returns-else-len-old-clause-reached : goal.returns-else-len-old-clause-reached
+returns-else-len-old-clause-reached c =
+    arrived_live _ c.args.u c.args.h c.args.len c.args.work.now _
+    (longer c.args.r.now.n c.args.u c.args.h c.args.len c.args.work.now c.requires.head_is_node
     c.if-old-eq0.false (omega arith))

@@ -11,12 +11,12 @@ below c = follow_below c.args.network.now.sound.arcs c.loop-arc.invariant c.in-S
 pub loop-arc-init : goal.loop-arc-init
 loop-arc-init c = follow_none c.requires.guided c.first-arc.ensures
 
-pub overflow_add-at : goal.overflow_add-at
-overflow_add-at c =
+pub overflow_add-len : goal.overflow_add-len
+overflow_add-len c =
     omega (
       arith,
       c.requires.bounded c.args.u c.requires.u_in_bounds.1,
-      c.args.network.now.sound.arcs.light _ (below (goal.at.overflow_add-at c).In-Some),
+      c.args.network.now.sound.arcs.light _ (below (goal.at.overflow_add-len c).In-Some),
     )
 
 pub weight-requires : goal.weight-requires

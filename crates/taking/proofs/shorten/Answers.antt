@@ -5,13 +5,13 @@ pub returns-then-is_open-clause-arrived : goal.returns-then-is_open-clause-arriv
 returns-then-is_open-clause-arrived c =
     let n = c.nodes-n.ensures.count in
     rw n
-    (shorten_open c.args.r.now.n c.args.u c.args.h c.args.at c.args.work.now
+    (shorten_open c.args.r.now.n c.args.u c.args.h c.args.len c.args.work.now
     c.requires.head_is_node c.requires.shorter
     (rw n at c.if-is_open.true))
 
 pub returns-else-is_open-clause-arrived : goal.returns-else-is_open-clause-arrived
 returns-else-is_open-clause-arrived c =
     let n = c.nodes-n.ensures.count in
-    shorten_not c.args.r.now.n c.args.u c.args.h c.args.at c.args.work.now c.requires.head_is_node
+    shorten_not c.args.r.now.n c.args.u c.args.h c.args.len c.args.work.now c.requires.head_is_node
     c.requires.shorter
     (rw n at c.if-is_open.false)

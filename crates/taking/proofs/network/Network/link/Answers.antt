@@ -9,8 +9,9 @@ loop-i-init c =
 
 pub loop-i-preserved : goal.loop-i-preserved
 loop-i-preserved c =
-    link_before c.loop-i.i c.loop-i-test.true c.loop-i.auto.i c.region.invariant.arcs
-    c.loop-i.invariant
+    rw c.from-node.ensures
+    (link_before c.loop-i.i c.loop-i-test.true c.loop-i.auto.i c.region.invariant.arcs
+    c.loop-i.invariant)
 
 pub invariant_of-result : goal.invariant_of-result
 invariant_of-result c =
