@@ -38,8 +38,8 @@ fn piece_at(text: &[u8], at: usize) -> Option<Piece>
     })
 }
 
-// The lines of a text from a position on. The paper names this form: a reader that stays on one text
-// and remembers its position.
+// The lines of a text from a position on. The paper names this form: a reader that stays on one
+// text and remembers its position.
 #[derive(Drop)]
 struct Lines<'a> {
     text: &'a [u8],
