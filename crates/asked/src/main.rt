@@ -12,31 +12,48 @@ const ROOM: usize = 150000;
 
 // What a case's field stands for. One that is no number, as *, stands for the largest, and one that
 // is no coordinate for the least.
-trait Entry: Copy {
+trait FromField: Copy {
     fn of(field: &[u8]) -> Self;
 }
 
-impl Entry for usize {
+impl FromField for usize {
     fn of(field: &[u8]) -> usize {
         text::number(field).unwrap_or(usize::MAX)
     }
 }
 
-impl Entry for u16 {
+impl FromField for u16 {
     fn of(field: &[u8]) -> u16 {
         u16::try_from(usize::of(field)).unwrap_or(u16::MAX)
     }
 }
 
-impl Entry for u32 {
+impl FromField for u32 {
     fn of(field: &[u8]) -> u32 {
         u32::try_from(usize::of(field)).unwrap_or(u32::MAX)
     }
 }
 
-impl Entry for i32 {
+impl FromField for i32 {
     fn of(field: &[u8]) -> i32 {
         text::signed(field).unwrap_or(i32::MIN)
+    }
+}
+
+// The call that a case names.
+#[derive(Clone, Copy)]
+enum Call {
+    Panel,
+    Search,
+}
+
+// 0 is the panel call, and every other number the search.
+impl FromField for Call {
+    fn of(field: &[u8]) -> Call {
+        match usize::of(field) {
+            0 => Call::Panel,
+            _ => Call::Search,
+        }
     }
 }
 
@@ -53,14 +70,14 @@ struct Fields<'a> {
 }
 
 impl Fields<'_> {
-    fn next<T: Entry>(&mut self) -> T {
+    fn next<T: FromField>(&mut self) -> T {
         let (field, rest) = text::split_word(self.rest);
         self.rest = rest;
         T::of(field)
     }
 
     // Fills the first entries of a table, `most` of them, and answers these.
-    fn fill<'t, T: Entry>(&mut self, table: &'t mut [T], most: usize) -> &'t [T] {
+    fn fill<'t, T: FromField>(&mut self, table: &'t mut [T], most: usize) -> &'t [T] {
         let table = lent(table, most);
         for entry in table.iter_mut() {
             *entry = self.next();
@@ -73,7 +90,7 @@ impl Fields<'_> {
 // is lent.
 #[derive(Clone, Copy)]
 struct Case {
-    call: usize,
+    call: Call,
     n: usize,
     m: usize,
     s: usize,
@@ -116,7 +133,8 @@ impl Case {
     }
 }
 
-// A digest of what came before and one value more. Crate cases, a program too, has the same line.
+// A digest of what came before and one value more, by the prime 1000003. `cases` has the same line:
+// the two are programs, and a crate that both use would be longer than the line.
 fn mixed(sum: u64, value: u64) -> u64 {
     (sum % 1000003 * 31 + value % 1000003) % 1000003
 }
@@ -157,8 +175,8 @@ fn tell(
     match answer {
         Ok(Tally { sites, taken }) => {
             print!(rt; "= {sites} {taken}")?;
-            for i in 0..sites {
-                route(rt, search::route(routes, ends, i + 1))?;
+            for rank in 1..=sites {
+                route(rt, search::route(routes, ends, rank))?;
             }
             Ok(())
         }
@@ -166,7 +184,8 @@ fn tell(
     }
 }
 
-// The call that the case names. The buffers hold 7 everywhere.
+// The call that the case names. The buffers hold 7 everywhere. Each has a little more room than
+// the limits ask for, so that a case can lend one that is too long.
 fn asked(rt: &impl Print, tables: &Tables, case: &Case) -> io::Result<()> {
     let mut work = [7u32; 4200];
     let mut listed = [7u16; 40];
@@ -179,10 +198,11 @@ fn asked(rt: &impl Print, tables: &Tables, case: &Case) -> io::Result<()> {
     let ends = lent(&mut ends, case.ends);
     let routes = lent(&mut routes, case.routes);
     let query = case.query;
-    let answer = if case.call == 0 {
-        search::panel(tables, query, work, listed, lengths, ends, routes)
-    } else {
-        search::search(tables, query, case.k, work, listed, lengths, ends, routes)
+    let answer = match case.call {
+        Call::Panel => search::panel(tables, query, work, listed, lengths, ends, routes),
+        Call::Search => {
+            search::search(tables, query, case.k, work, listed, lengths, ends, routes)
+        }
     };
     tell(rt, answer, routes, ends)?;
     buffer(rt, "w", work)?;
@@ -192,7 +212,8 @@ fn asked(rt: &impl Print, tables: &Tables, case: &Case) -> io::Result<()> {
     buffer(rt, "r", routes)
 }
 
-// The tables of a case stand behind its numbers, and hold 7 where the case gives nothing.
+// The tables of a case stand behind its numbers, and hold 7 where the case gives nothing. Each has a
+// little more room than the limits allow, so that a case can lend one that is too long.
 fn search_case(rt: &impl Print, fields: &mut Fields) -> io::Result<()> {
     let case = Case::read(fields);
     let mut tails = [7u16; 4100];
@@ -215,6 +236,7 @@ fn search_case(rt: &impl Print, fields: &mut Fields) -> io::Result<()> {
     asked(rt, &tables, &case)
 }
 
+// A call for one route. Its buffers have as much room as those of a search's case.
 fn route_case(rt: &impl Print, fields: &mut Fields) -> io::Result<()> {
     let rank = fields.next();
     let lent_ends = fields.next();
@@ -227,7 +249,7 @@ fn route_case(rt: &impl Print, fields: &mut Fields) -> io::Result<()> {
 }
 
 // One case, by way of the buffer; false where the input has ended.
-// A read that fails ends the input.
+// A read that fails ends the input. `cases` has its own, for a first line of another form.
 fn next_case(rt: &impl Print, input: &mut impl Read, buffer: &mut [u8; ROOM]) -> io::Result<bool> {
     let mut first = [0u8; 9];
     if input.read_exact(&mut first).is_err() {
@@ -247,9 +269,11 @@ fn next_case(rt: &impl Print, input: &mut impl Read, buffer: &mut [u8; ROOM]) ->
     Ok(true)
 }
 
+// As in `cases`, which is a program of its own.
 fn main(rt: HostRuntime) -> io::Result<()> {
     let mut input = rt.stdin();
     let mut buffer = [0u8; ROOM];
+    // More rounds than any input has cases; the loop ends where the input does.
     for _ in 0..5000 {
         if !next_case(&rt, &mut input, &mut buffer)? {
             break;

@@ -21,7 +21,8 @@ fn tell(rt: &impl Print, answer: Result<Counts, Refusal>) -> io::Result<()> {
     }
 }
 
-// A digest of what came before and one value more.
+// A digest of what came before and one value more, by the prime 1000003. `asked` has the same line:
+// the two are programs, and a crate that both use would be longer than the line.
 fn mixed(sum: u64, value: u64) -> u64 {
     (sum % 1000003 * 31 + value % 1000003) % 1000003
 }
@@ -70,7 +71,7 @@ fn sites(rt: &impl Print, text: &[u8], nodes: usize, room: usize) -> io::Result<
 }
 
 // One case, by way of the buffer; false where the input has ended.
-// A read that fails ends the input.
+// A read that fails ends the input. `asked` has its own, for a first line of another form.
 fn next_case(rt: &impl Print, input: &mut impl Read, buffer: &mut [u8; ROOM]) -> io::Result<bool> {
     let mut first = [0u8; 20];
     if input.read_exact(&mut first).is_err() {
@@ -91,9 +92,11 @@ fn next_case(rt: &impl Print, input: &mut impl Read, buffer: &mut [u8; ROOM]) ->
     Ok(true)
 }
 
+// As in `asked`, which is a program of its own.
 fn main(rt: HostRuntime) -> io::Result<()> {
     let mut input = rt.stdin();
     let mut buffer = [0u8; ROOM];
+    // More rounds than any input has cases; the loop ends where the input does.
     for _ in 0..5000 {
         if !next_case(&rt, &mut input, &mut buffer)? {
             break;

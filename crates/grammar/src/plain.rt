@@ -13,6 +13,7 @@ fn digits(rest: &[u8], end: u8) -> Option<(usize, &[u8])>
 {
     // A number has nine digits at most.
     let most = rest.len().min(9);
+    // One pass counts the digits beside their value: two chains would look at each byte twice.
     let mut len = 0;
     let mut value = 0;
     for &byte in &rest[..most] {

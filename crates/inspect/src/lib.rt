@@ -38,6 +38,7 @@ fn tables_fit(t: &Tables) -> bool
         && t.s <= t.sites.len()
 }
 
+// The rooms come one by one, as they are lent; only their lengths are asked for.
 fn rooms_fit(
     n: usize,
     k: usize,
@@ -104,11 +105,11 @@ impl Entries<'_> {
         ensures { result ≡ arc_fault base (tables_of self.now.tables) i }
     {
         let t = self.tables;
-        let tail = t.tails[i] as usize;
-        let head = t.heads[i] as usize;
+        let tail = usize::from(t.tails[i]);
+        let head = usize::from(t.heads[i]);
         let weight = t.weights[i];
         reading::arc_fault(meaning::base(), t.n, tail, head, weight as usize)?;
-        let long = weight as u64;
+        let long = u64::from(weight);
         let short = long * long < straight::squares(t.xs, t.ys, tail - 1, head - 1);
         if short {
             return Err(Fault::ArcShort);
@@ -117,9 +118,11 @@ impl Entries<'_> {
     }
 
     // The first faulty entry ends the check and is the place: each site, against all earlier ones.
-    // The paper asks for this form: labelled loops, left by break with the refusal's place.
+    // The paper asks for this form: labelled loops, left by break with the refusal's place. The
+    // outer loop goes by j, the entry that is judged, and the inner by i, the entry before it.
     fn stands(&self) -> Result<(), Refusal>
-        ensures { result ≡ first_fault (site_fault base (tables_of self.now.tables)) self.now.tables.s }
+        ensures { result
+            ≡ first_fault (site_fault base (tables_of self.now.tables)) self.now.tables.s }
     {
         let t = self.tables;
         let mut j = 0;
@@ -128,7 +131,7 @@ impl Entries<'_> {
                 break 'entries Ok(());
             }
             let number = t.sites[j];
-            if !reading::within(1, number as usize, t.n) {
+            if !reading::within(1, usize::from(number), t.n) {
                 break 'entries Err(Fault::NodeOutside.at(j + 1));
             }
             for i in 0..j {
@@ -164,7 +167,7 @@ impl Entries<'_> {
         let t = self.tables;
         let mut seen = Marks::new();
         for &number in &t.sites[..t.s] {
-            if !self.is_new(&mut seen, number as usize) {
+            if !self.is_new(&mut seen, usize::from(number)) {
                 return false;
             }
         }

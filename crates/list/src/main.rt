@@ -33,13 +33,13 @@ fn has_argument(rt: &impl Env) -> bool {
 fn main(rt: HostRuntime) -> io::Result<()> {
     let mut graph = [0u8; TEXT_ROOM];
     let mut points = [0u8; TEXT_ROOM];
-    let mut stands = [0u8; TEXT_ROOM];
+    let mut sites = [0u8; TEXT_ROOM];
     let mut ask = [0u8; TEXT_ROOM];
     pack::print(
         &rt,
         load(&rt, "map.gr", &mut graph),
         load(&rt, "map.co", &mut points),
-        load(&rt, "sites.ss", &mut stands),
+        load(&rt, "sites.ss", &mut sites),
         load(&rt, "ask.ss", &mut ask),
         has_argument(&rt),
     )

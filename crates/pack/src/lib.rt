@@ -21,6 +21,7 @@ pub fn read_full<I: io::Read>(input: &mut I, text: &mut [u8]) -> usize
     ensures bytes { Consumes (I.remaining input.old) (I.remaining input.new)
         (take result text.new) }
 {
+    // The loop goes by what was read: a read may give fewer bytes than there is room for.
     let mut done = 0;
     while done < text.len() {
         match input.read(&mut text[done..]) {
@@ -122,7 +123,7 @@ fn lists(
     rt: &impl Print,
     graph: &[u8],
     points: &[u8],
-    stands: &[u8],
+    site_text: &[u8],
     ask: &[u8],
 ) -> Result<(), Halt> {
     let mut tails = [0u16; ARCS_MOST];
@@ -137,7 +138,7 @@ fn lists(
     let Counts { nodes: n, rows: m } = accepted(answer, "map.gr", "line")?;
     let answer = readers::read_coordinates(points, n, &mut xs, &mut ys);
     accepted(answer, "map.co", "line")?;
-    let answer = readers::read_sites(stands, n, &mut sites);
+    let answer = readers::read_sites(site_text, n, &mut sites);
     let Counts { rows: s, .. } = accepted(answer, "sites.ss", "line")?;
     let answer = readers::read_sites(ask, n, &mut asked);
     let Counts { rows: queries, .. } = accepted(answer, "ask.ss", "line")?;
@@ -164,11 +165,11 @@ pub fn print(
     rt: &(impl Print + Eprint),
     graph: &[u8],
     points: &[u8],
-    stands: &[u8],
+    sites: &[u8],
     ask: &[u8],
     aloud: bool,
 ) -> io::Result<()> {
-    match lists(rt, graph, points, stands, ask) {
+    match lists(rt, graph, points, sites, ask) {
         Ok(()) => Ok(()),
         Err(Halt::Failed(error)) => Err(error),
         Err(Halt::Refused(refused)) => {

@@ -113,6 +113,7 @@ pub extern "C" fn wick_search(
         (rooms work.old listed.old lengths.old ends.old routes.old)
         (rooms work.new listed.new lengths.new ends.new routes.new) result }
 {
+    // The C interface lends table by table, so each of the two calls puts them together by itself.
     let lent = Tables {
         tails,
         heads,

@@ -24,22 +24,23 @@ fn region(rt: &(impl Print + Eprint), input: &mut impl io::Read) -> io::Result<b
     let mut sizes = [0u8; 24];
     let mut graph = [0u8; TEXT_ROOM];
     let mut points = [0u8; TEXT_ROOM];
-    let mut stands = [0u8; TEXT_ROOM];
+    let mut sites = [0u8; TEXT_ROOM];
     let mut ask = [0u8; TEXT_ROOM];
     if pack::read_full(input, &mut sizes) < sizes.len() {
         return Ok(false);
     }
     let graph = fetch(input, &sizes[0..5], &mut graph);
     let points = fetch(input, &sizes[6..11], &mut points);
-    let stands = fetch(input, &sizes[12..17], &mut stands);
+    let sites = fetch(input, &sizes[12..17], &mut sites);
     let ask = fetch(input, &sizes[18..23], &mut ask);
-    pack::print(rt, graph, points, stands, ask, false)?;
+    pack::print(rt, graph, points, sites, ask, false)?;
     println!(rt)?;
     Ok(true)
 }
 
 fn main(rt: HostRuntime) -> io::Result<()> {
     let mut input = rt.stdin();
+    // More rounds than any input has regions; the loop ends where the input does.
     for _ in 0..1000 {
         if !region(&rt, &mut input)? {
             break;

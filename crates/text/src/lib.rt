@@ -38,7 +38,8 @@ fn piece_at(text: &[u8], at: usize) -> Option<Piece>
     })
 }
 
-// The lines of a text from a position on.
+// The lines of a text from a position on. The paper names this form: a reader that stays on one
+// text and remembers its position.
 #[derive(Drop)]
 struct Lines<'a> {
     text: &'a [u8],
@@ -115,14 +116,15 @@ pub fn split_word(rest: &[u8]) -> (&[u8], &[u8])
     lead.split_at(inks(lead))
 }
 
-// The next field.
+// The next field: the first half of `split_word`.
 pub fn word(rest: &[u8]) -> &[u8]
     ensures { result.now ≡ first (fields rest.now) }
 {
     split_word(rest).0
 }
 
-// What follows the next field: the rest that the next field's parser is handed.
+// What follows the next field: the second half of `split_word`, the rest that the next field's
+// parser is handed.
 pub fn after(rest: &[u8]) -> &[u8]
     ensures { fields result.now ≡ others (fields rest.now) }
 {
@@ -136,7 +138,8 @@ pub fn ended(rest: &[u8]) -> bool
     rest.iter().all(|&b| is_blank(b))
 }
 
-// Whether a field is the word w, byte by byte.
+// Whether a field is the word w, byte by byte. The clause has the paper's word for it, so the name
+// stays over `==`.
 pub fn same(f: &[u8], w: &[u8]) -> bool
     ensures { result ≡ same_bytes f.now w.now }
 {

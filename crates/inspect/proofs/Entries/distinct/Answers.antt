@@ -11,4 +11,4 @@ pub loop-number-preserved : goal.loop-number-preserved
 loop-number-preserved c =
     let t = c.args.self.now.tables in
     let below : c.loop-number.number-index < t.s = omega (arith, simp length-take at c.loop-number-test.true) in
-    stood_more _ _ _ _ c.loop-number.invariant (rw get_or-take at (c.is_new.ensures c.if-not-is_new.false))
+    stood_more _ _ _ _ c.loop-number.invariant (rw (c.from.ensures, get_or-take) at (c.is_new.ensures c.if-not-is_new.false))

@@ -21,18 +21,18 @@ entries-preserved c =
     let all : c.loop-i.i ≡ c.entries.j = omega arith in (
       omega arith,
       first_more _ _ c.entries.invariant.1
-          (site_fine _ _ (sym c.within.ensures ∙ c.if-not-within.false) (rw all at c.loop-i.invariant)),
+          (site_fine _ _ (sym (rw c.from.ensures at c.within.ensures) ∙ c.if-not-within.false) (rw all at c.loop-i.invariant)),
     )
 
 pub returns-then-not-within : goal.returns-then-not-within
 returns-then-not-within c =
     ap Err c.at.ensures
     ∙ first_at _ _ _ _ c.if-t-j.false c.entries.invariant.1
-    (site_outside _ _ (sym c.within.ensures ∙ c.if-not-within.true))
+    (site_outside _ _ (sym (rw c.from.ensures at c.within.ensures) ∙ c.if-not-within.true))
 
 pub returns-then-again : goal.returns-then-again
 returns-then-again c =
     ap Err c.at-then-again.ensures
     ∙ first_at _ _ _ _ c.if-t-j.false c.entries.invariant.1
-    (site_twice _ _ (sym c.within.ensures ∙ c.if-not-within.false)
+    (site_twice _ _ (sym (rw c.from.ensures at c.within.ensures) ∙ c.if-not-within.false)
     (among_hit _ _ c.loop-i.i _ c.loop-i-test.true c.if-again.true))
