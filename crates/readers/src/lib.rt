@@ -5,7 +5,22 @@
 ghost use Rattle.std.specs.Prelude.{◌≡◌, ◌≤◌, length};
 ghost use Rattle.meaning.specs.Limits.{base};
 ghost use Rattle.meaning.specs.Files.{GraphRead, CoordinatesRead, SitesRead};
-ghost use Rattle.readers.specs.Writing.{arc_row, point_row, site_row, stored, in_order, at_node, tail_in, head_in, weight_in, x_in, y_in, site_in, ArcRows, PointRows};
+ghost use Rattle.readers.specs.Writing.{
+  arc_row,
+  point_row,
+  site_row,
+  stored,
+  in_order,
+  at_node,
+  tail_in,
+  head_in,
+  weight_in,
+  x_in,
+  y_in,
+  site_in,
+  ArcRows,
+  PointRows,
+};
 
 use meaning::{ARCS_MOST, Counts, Entry, Kind, NODES_MOST, Refusal, SITES_MOST};
 use reading::Row;
@@ -76,9 +91,15 @@ impl Row for SiteRow {
 // The rows of an accepted graph text go into the tables.
 fn write_arcs(rows: &[ArcRow], tails: &mut [u16], heads: &mut [u16], weights: &mut [u32])
     requires { ArcRows rows.now tails.old heads.old weights.old }
-    ensures tails_are { tails.new ≡ stored in_order (tail_in rows.now) (length rows.now) tails.old }
-    ensures heads_are { heads.new ≡ stored in_order (head_in rows.now) (length rows.now) heads.old }
-    ensures weights_are { weights.new ≡ stored in_order (weight_in rows.now) (length rows.now) weights.old }
+    ensures tails_are {
+        tails.new ≡ stored in_order (tail_in rows.now) (length rows.now) tails.old
+    }
+    ensures heads_are {
+        heads.new ≡ stored in_order (head_in rows.now) (length rows.now) heads.old
+    }
+    ensures weights_are {
+        weights.new ≡ stored in_order (weight_in rows.now) (length rows.now) weights.old
+    }
 {
     for (i, row) in rows.iter().enumerate() {
         tails[i] = row.tail;

@@ -11,7 +11,7 @@ use native.Mathlib.Omega.{arith}
 use borrow.Author.Tests.{eq-eqb, ne_eqb, eqb-true, eqb-false, leb-false, leb-true, lt-leb}
 use Rattle.std.specs.Prelude.{Option, Some, None, Ok, Err}
 use Rattle.meaning.specs.Limits.{base, Test, fine, and_then}
-use Rattle.meaning.specs.Files.{within, most_rows, agrees, counts_fault, entry_fault, node_of, is_given, repeated, awaiting, begun, Progress, Next, go, stop, step, unless}
+use Rattle.meaning.specs.Files.{within, most_rows, agrees, counts_fault, entry_fault, node_of, is_given, repeated, awaiting, begun, Progress, Next, stop, unless}
 use Rattle.meaning.proofs.Tests.{both, passed, failed, within_is, then_fine, not_fine}
 use Rattle.meaning.proofs.Reading.{arc_fine, node_fine, given_more}
 use Rattle.meaning.specs.declared.Limits.{Limits}
@@ -23,10 +23,10 @@ use Rattle.meaning.specs.declared.Rules.{Rules}
 use Rattle.meaning.specs.declared.Counts.{Counts}
 use Rattle.meaning.specs.declared.Entry.{Entry}
 use Rattle.meaning.specs.declared.Entry.TheVariants.{Arc, Point, Site}
-use Rattle.meaning.specs.declared.Line.TheVariants.{Problem, Data}
+use Rattle.meaning.specs.declared.Line.TheVariants.{Data}
 use Rattle.reading.specs.Marks.{is_marked, Added}
 use Rattle.reading.specs.Rows.{Rows}
-use Rattle.reading.specs.Follows.{only_once, data_fault, Small, Ready, Stands, Keeps, Went, Opened, Tracks, Follows, AnswersProblem, Answers}
+use Rattle.reading.specs.Follows.{only_once, data_fault, Small, Ready, Keeps, Went, Opened, Tracks, Follows, Answers}
 use Rattle.reading.specs.declared.Reader.{Reader}
 
 -- ---- counts that were accepted
@@ -79,13 +79,6 @@ rows_on {A} row_of es e rows h q =
 
 pub opened : {A : Type 0} (row_of : Entry → A) (R : Rules) (at : ℕ) (s : Reader) (rows : List A) (p : Progress) → Opened R at s p → Went row_of R at s rows p
 opened row_of R at s rows p o = record { rules_are = o.rules_are; at_is = o.at_is; keeps = record { stands = o.stands; rows_are = rw o.none_yet refl } }
-
-pub problem_on : {A : Type 0} (row_of : Entry → A) (s : Reader) (rows : List A) (c : Counts) (r : Test) (s' : Reader) → AnswersProblem s c r s' → Answers row_of s rows (Problem c) r s' rows
-problem_on {A} row_of s rows c r s' h p k = by (step s.rules p (Problem c)) (h.answers p k.stands)
-  where
-    by : (n : Next) → Follows (Opened s.rules s.at s') r n → Follows (Went row_of s.rules s.at s' rows) r n
-    by (stop fault) f = f
-    by (go q) f = (f.0, opened row_of s.rules s.at s' rows q f.1)
 
 -- ---- a data line
 

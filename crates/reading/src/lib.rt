@@ -5,10 +5,34 @@ ghost use Rattle.std.specs.Prelude.{◌≡◌, ◌≤◌, cond, length, nat_abs,
 ghost use Rattle.meaning.specs.Limits.{base, fine};
 ghost use Rattle.meaning.specs.declared.Entry.{Entry};
 ghost use Rattle.meaning.specs.Text.{lines};
-ghost use Rattle.meaning.specs.Files.{within as is_within, is_coordinate, most_rows, agrees as is_agreed, counts_fault, entry_fault, node_of, awaiting, read_from, handed_in, reading, answered};
+ghost use Rattle.meaning.specs.Files.{
+  within as is_within,
+  is_coordinate,
+  most_rows,
+  agrees as is_agreed,
+  counts_fault,
+  entry_fault,
+  node_of,
+  awaiting,
+  read_from,
+  handed_in,
+  reading,
+  answered,
+};
 ghost use Rattle.reading.specs.Said.{said_at};
 ghost use Rattle.reading.specs.Rows.{Wide, RowsRead};
-ghost use Rattle.reading.specs.Follows.{only_once, too_many, data_fault, Small, Ready, Starts, Finishes, Answers, AnswersProblem, AnswersNext};
+ghost use Rattle.reading.specs.Follows.{
+  only_once,
+  too_many,
+  data_fault,
+  Small,
+  Ready,
+  Starts,
+  Finishes,
+  Answers,
+  AnswersProblem,
+  AnswersNext,
+};
 
 pub use marks::Marks;
 use meaning::{Counts, Entry, Fault, Kind, Limits, Line, Refusal, Rules};
@@ -302,16 +326,15 @@ pub fn judged<R: Row>(
     rows: &mut [R],
 ) -> Result<Counts, Refusal>
     requires { Wide kind rows.old }
-    ensures rows_read { RowsRead R.row_of (reading (record { limits = base; kind = kind; given = given; room = room }) text.now) rows.new }
-    ensures value { result ≡ answered (reading (record { limits = base; kind = kind; given = given; room = room }) text.now) }
+    ensures rows_read { RowsRead R.row_of
+        (reading (record { limits = base; kind = kind; given = given; room = room }) text.now)
+        rows.new }
+    ensures value { result ≡ answered
+        (reading (record { limits = base; kind = kind; given = given; room = room }) text.now) }
 {
     let limits = meaning::base();
-    if limits.text < text.len() {
-        return Err(Fault::TextTooLong.at(0));
-    }
-    if !handed_in(limits, kind, given) {
-        return Err(Fault::CountOutside.at(0));
-    }
+    test(text.len() <= limits.text, Fault::TextTooLong).map_err(|fault| fault.at(0))?;
+    test(handed_in(limits, kind, given), Fault::CountOutside).map_err(|fault| fault.at(0))?;
     let rules = Rules {
         limits,
         kind,
