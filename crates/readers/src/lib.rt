@@ -91,15 +91,9 @@ impl Row for SiteRow {
 // The rows of an accepted graph text go into the tables.
 fn write_arcs(rows: &[ArcRow], tails: &mut [u16], heads: &mut [u16], weights: &mut [u32])
     requires { ArcRows rows.now tails.old heads.old weights.old }
-    ensures tails_are {
-        tails.new ≡ stored in_order (tail_in rows.now) (length rows.now) tails.old
-    }
-    ensures heads_are {
-        heads.new ≡ stored in_order (head_in rows.now) (length rows.now) heads.old
-    }
-    ensures weights_are {
-        weights.new ≡ stored in_order (weight_in rows.now) (length rows.now) weights.old
-    }
+    ensures tails_are { tails.new ≡ stored in_order (tail_in rows.now) (length rows.now) tails.old }
+    ensures heads_are { heads.new ≡ stored in_order (head_in rows.now) (length rows.now) heads.old }
+    ensures weights_are { weights.new ≡ stored in_order (weight_in rows.now) (length rows.now) weights.old }
 {
     for (i, row) in rows.iter().enumerate() {
         tails[i] = row.tail;
