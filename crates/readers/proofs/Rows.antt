@@ -8,10 +8,8 @@ use native.Mathlib.Omega.{arith}
 use Rattle.meaning.specs.Lists.{All}
 use Rattle.meaning.specs.Files.{node_of, put_all}
 use Rattle.meaning.specs.declared.Entry.{Entry}
-use Rattle.meaning.specs.declared.Entry.TheVariants.{Arc, Point, Site}
-use Rattle.reading.specs.Rows.{row_of}
-use Rattle.reading.specs.declared.Row.{Row}
-use Rattle.readers.specs.Writing.{stored, row_at, in_order, at_node}
+use Rattle.meaning.specs.declared.Entry.TheVariants.{Site}
+use Rattle.readers.specs.Writing.{stored, in_order}
 
 -- what stands behind the last entry, as a row of zeros
 abbrev pub none : Entry
@@ -22,13 +20,8 @@ all_at P [] a i h = absurd (omega arith)
 all_at P (e ∷ es) a zero h = a.0
 all_at P (e ∷ es) a (suc i) h = all_at P es a.1 i (omega arith)
 
-pub row_is : (es : List Entry) (i : ℕ) → row_at (map row_of es) i ≡ row_of (get_or es i none)
-row_is es i = get_or-map row_of es i none
-
-pub node_is : (e : Entry) → (row_of e).node ≡ node_of e
-node_is (Arc u v w) = refl
-node_is (Point v x y) = refl
-node_is (Site v) = refl
+pub row_is : {B : Type 0} (row_of : Entry → B) (es : List Entry) (i : ℕ) → get_or (map row_of es) i (row_of none) ≡ row_of (get_or es i none)
+row_is row_of es i = get_or-map row_of es i none
 
 -- ---- all rows
 
@@ -58,7 +51,6 @@ module _ {A : Type 0} (value : Entry → A) where
     pub stored_front : stored in_order v (length es) xs ≡ sets xs 0 (map value es)
     stored_front = stored_as (λ k e. k) (λ k es xs. sets xs k (map value es)) (λ k xs. refl) (λ k e es xs. refl) es 0 in_order v xs (λ i l. omega arith) q
 
-    pub stored_by_node : stored (at_node (map row_of es)) v (length es) xs ≡ put_all value es xs
-    stored_by_node =
-        stored_as (λ k e. node_of e - 1) (λ k es xs. put_all value es xs) (λ k xs. refl) (λ k e es xs. refl) es 0 (at_node (map row_of es)) v xs
-        (λ i l. ap (λ (r : Row). r.node - 1) (row_is es i) ∙ ap (λ (n : ℕ). n - 1) (node_is (get_or es i none))) q
+    pub stored_by_node : (place : ℕ → ℕ) → ((i : ℕ) → i < length es → place i ≡ node_of (get_or es i none) - 1) → stored place v (length es) xs ≡ put_all value es xs
+    stored_by_node place p =
+        stored_as (λ k e. node_of e - 1) (λ k es xs. put_all value es xs) (λ k xs. refl) (λ k e es xs. refl) es 0 place v xs p q

@@ -32,9 +32,9 @@ use Rattle.grammar.specs.Plain.{first_says}
 use Rattle.reading.specs.Said.{said_at}
 use Rattle.reading.specs.Rows.{Rows, RowsRead}
 use Rattle.reading.specs.Follows.{moved_to, entries_since, Keeps, Went, Starts, Follows, AnswersNext}
+use Rattle.reading.proofs.Steps.{opened}
 use Rattle.reading.specs.declared.Said.{Said}
 use Rattle.reading.specs.declared.Reader.{Reader}
-use Rattle.reading.specs.declared.Row.{Row}
 
 -- ---- what the code finds at a position
 
@@ -86,31 +86,31 @@ blank_word (suc n) zero = refl
 blank_word (suc n) (suc i) = blank_word n i
 
 pub started : (R : Rules) (marks : List ℕ) → marks ≡ replicate 32 0 → Starts R (record { rules = R; at = 0; counts = None; count = 0; marks = marks })
-started R marks e rows = record {
+started R marks e = record {
   rules_are = refl;
   at_is = refl;
-  keeps = record {
+  stands = record {
     counts_are = refl;
     passed = tt;
     count_is = refl;
     tracks = λ j h. rw (e, blank_word 32 (j / 32), zero-div (2 ^ (j % 32)));
-    rows_are = refl;
   };
+  none_yet = refl;
 }
 
 -- the lines up to a reader's position led to a progress that it keeps
-pub record Judged (R : Rules) (text : List ℕ) (rows₀ : List Row) (s : Reader) (rows : List Row) (place : ℕ) : Type 0 where
+pub record Judged {A : Type 0} (row_of : Entry → A) (R : Rules) (text : List ℕ) (rows₀ : List A) (s : Reader) (rows : List A) (place : ℕ) : Type 0 where
   pub progress : Progress
   pub rules_are : s.rules ≡ R
-  pub keeps : Keeps s rows progress
+  pub keeps : Keeps row_of s rows progress
   pub size : length rows ≡ length rows₀
   pub low : place ≤ s.at
   pub high : s.at ≤ length text + 1
   pub same : read_from R (lines text) awaiting 0 ≡ read_from R (lines (drop s.at text)) progress place
 
-pub judged_start : (R : Rules) (text : List ℕ) (rows : List Row) (s : Reader) → Starts R s → Judged R text rows s rows 0
-judged_start R text rows s starts =
-    let went : Went R 0 s rows awaiting = starts rows in
+pub judged_start : {A : Type 0} (row_of : Entry → A) (R : Rules) (text : List ℕ) (rows : List A) (s : Reader) → Starts R s → Judged row_of R text rows s rows 0
+judged_start row_of R text rows s starts =
+    let went : Went row_of R 0 s rows awaiting = opened row_of R 0 s rows awaiting starts in
     record {
       progress = awaiting;
       rules_are = went.rules_are;
@@ -122,8 +122,11 @@ judged_start R text rows s starts =
     }
 
 -- wherever the next line starts
-moved_keeps : (s : Reader) (at : ℕ) (rows : List Row) (p : Progress) → Keeps s rows p → Keeps (moved_to s at) rows p
-moved_keeps s at rows p k = record { counts_are = k.counts_are; passed = k.passed; count_is = k.count_is; tracks = k.tracks; rows_are = k.rows_are }
+moved_keeps : {A : Type 0} (row_of : Entry → A) (s : Reader) (at : ℕ) (rows : List A) (p : Progress) → Keeps row_of s rows p → Keeps row_of (moved_to s at) rows p
+moved_keeps row_of s at rows p k = record {
+  stands = record { counts_are = k.stands.counts_are; passed = k.stands.passed; count_is = k.stands.count_is; tracks = k.stands.tracks };
+  rows_are = k.rows_are;
+}
 
 -- a test, from what became of its refusal
 pub passes : (r : Test) (m : Result (Unit {0}) Refusal) → is_ok m ≡ is_ok r → m ≡ Ok tt → r ≡ fine
@@ -137,22 +140,22 @@ fails (Ok tt) m Post h y e = absurd (not_fine y (sym e ∙ h))
 fails (Err fault) m Post h y e = (fault, refl, rw e at h)
 
 -- the code refuses with the rules, or goes on with them
-stopped : (R : Rules) (at : ℕ) (r : Test) (s : Reader) (rows : List Row) (fault : Fault) → r ≡ Err fault → (x : Next) → Follows R at r s rows x → x ≡ stop fault
-stopped R at r s rows fault is (stop other) f = let e : ◌≡◌ {A = Test} (Err other) (Err fault) = sym f ∙ is in let o : other ≡ fault = cc in ap stop o
-stopped R at r s rows fault is (go p) f = absurd (not_fine fault (sym is ∙ f.0))
+stopped : {A : Type 0} (row_of : Entry → A) (R : Rules) (at : ℕ) (r : Test) (s : Reader) (rows : List A) (fault : Fault) → r ≡ Err fault → (x : Next) → Follows (Went row_of R at s rows) r x → x ≡ stop fault
+stopped row_of R at r s rows fault is (stop other) f = let e : ◌≡◌ {A = Test} (Err other) (Err fault) = sym f ∙ is in let o : other ≡ fault = cc in ap stop o
+stopped row_of R at r s rows fault is (go p) f = absurd (not_fine fault (sym is ∙ f.0))
 
-record Gone (R : Rules) (at : ℕ) (s : Reader) (rows : List Row) (x : Next) : Type 0 where
+record Gone {A : Type 0} (row_of : Entry → A) (R : Rules) (at : ℕ) (s : Reader) (rows : List A) (x : Next) : Type 0 where
   pub progress : Progress
   pub same : x ≡ go progress
-  pub went : Went R at s rows progress
+  pub went : Went row_of R at s rows progress
 
-gone : (R : Rules) (at : ℕ) (r : Test) (s : Reader) (rows : List Row) → r ≡ fine → (x : Next) → Follows R at r s rows x → Gone R at s rows x
-gone R at r s rows is (stop fault) f = absurd (not_fine fault (sym f ∙ is))
-gone R at r s rows is (go p) f = record { progress = p; same = refl; went = f.1 }
+gone : {A : Type 0} (row_of : Entry → A) (R : Rules) (at : ℕ) (r : Test) (s : Reader) (rows : List A) → r ≡ fine → (x : Next) → Follows (Went row_of R at s rows) r x → Gone row_of R at s rows x
+gone row_of R at r s rows is (stop fault) f = absurd (not_fine fault (sym f ∙ is))
+gone row_of R at r s rows is (go p) f = record { progress = p; same = refl; went = f.1 }
 
-module _ {R : Rules} {text : List ℕ} {rows₀ : List Row} {s : Reader} {rows : List Row} {place : ℕ} (j : Judged R text rows₀ s rows place) where
+module _ {A : Type 0} {row_of : Entry → A} {R : Rules} {text : List ℕ} {rows₀ : List A} {s : Reader} {rows : List A} {place : ℕ} (j : Judged row_of R text rows₀ s rows place) where
   -- the next line, and the code's answer to it
-  module _ (h : s.at < length text) (r : Test) (s' : Reader) (rows' : List Row) (answers : AnswersNext text s rows r s' rows') where
+  module _ (h : s.at < length text) (r : Test) (s' : Reader) (rows' : List A) (answers : AnswersNext row_of text s rows r s' rows') where
     abbrev said : Said
     said = said_at R.kind R.given text s.at
 
@@ -165,22 +168,22 @@ module _ {R : Rules} {text : List ℕ} {rows₀ : List Row} {s : Reader} {rows :
         ∙ ap (λ (x : Said). on_next (step R j.progress x.line) (suc place) (λ p. read_from R (lines (drop x.next text)) p (suc place)))
         (sym (said_is R.kind R.given text s.at h))
 
-    follows : Follows R said.next r s' rows' (step R j.progress said.line)
-    follows = rw j.rules_are at (answers j.progress (moved_keeps s _ rows j.progress j.keeps))
+    follows : Follows (Went row_of R said.next s' rows') r (step R j.progress said.line)
+    follows = rw j.rules_are at (answers j.progress (moved_keeps row_of s _ rows j.progress j.keeps))
 
     pub judged_stop : (fault : Fault) → r ≡ Err fault → read_from R (lines text) awaiting 0 ≡ refused fault (place + 1)
     judged_stop fault z =
-        here ∙ ap (λ (x : Next). on_next x (suc place) later) (stopped R said.next r s' rows' fault z (step R j.progress said.line) follows)
+        here ∙ ap (λ (x : Next). on_next x (suc place) later) (stopped row_of R said.next r s' rows' fault z (step R j.progress said.line) follows)
         ∙ ap (refused fault) (sym (add-one place))
 
     module _ (z : r ≡ fine) where
-      on : Gone R said.next s' rows' (step R j.progress said.line)
-      on = gone R said.next r s' rows' z (step R j.progress said.line) follows
+      on : Gone row_of R said.next s' rows' (step R j.progress said.line)
+      on = gone row_of R said.next r s' rows' z (step R j.progress said.line) follows
 
       pub judged_up : s.at < s'.at
       judged_up = omega (arith, on.went.at_is, next_is R.kind R.given text s.at h)
 
-      pub judged_on : length rows' ≡ length rows → Judged R text rows₀ s' rows' (place + 1)
+      pub judged_on : length rows' ≡ length rows → Judged row_of R text rows₀ s' rows' (place + 1)
       judged_on l = record {
         progress = on.progress;
         rules_are = on.went.rules_are;
@@ -197,13 +200,13 @@ module _ {R : Rules} {text : List ℕ} {rows₀ : List Row} {s : Reader} {rows :
   pub judged_end : length text ≤ s.at → read_from R (lines text) awaiting 0 ≡ finish j.progress
   judged_end h = j.same ∙ ap (λ (r : List ℕ). read_from R (lines r) j.progress place) (drop_of_length-le text h)
 
-  pub judged_rows : RowsRead (finish j.progress) rows
+  pub judged_rows : RowsRead row_of (finish j.progress) rows
   judged_rows = by j.progress j.keeps.rows_are
     where
-      either : (b : Bool) (c : Counts) (es : List Entry) → Rows es rows → RowsRead (cond b (read c es) (refused DataMiscounted 0)) rows
+      either : (b : Bool) (c : Counts) (es : List Entry) → Rows row_of es rows → RowsRead row_of (cond b (read c es) (refused DataMiscounted 0)) rows
       either true c es h = h
       either false c es h = tt
 
-      by : (p : Progress) → Rows (entries_since p) rows → RowsRead (finish p) rows
+      by : (p : Progress) → Rows row_of (entries_since p) rows → RowsRead row_of (finish p) rows
       by awaiting h = tt
       by (begun c es) h = either (eqb (length es) c.rows) c es h

@@ -11,7 +11,7 @@ use native.Mathlib.Omega.{arith}
 use borrow.Author.Tests.{eq-eqb, ne_eqb, eqb-true, eqb-false, leb-false, leb-true, lt-leb}
 use Rattle.std.specs.Prelude.{Option, Some, None, Ok, Err}
 use Rattle.meaning.specs.Limits.{base, Test, fine, and_then}
-use Rattle.meaning.specs.Files.{within, most_rows, agrees, counts_fault, entry_fault, node_of, is_given, repeated, awaiting, begun, Next, stop, unless}
+use Rattle.meaning.specs.Files.{within, most_rows, agrees, counts_fault, entry_fault, node_of, is_given, repeated, awaiting, begun, Progress, Next, stop, unless}
 use Rattle.meaning.proofs.Tests.{both, passed, failed, within_is, then_fine, not_fine}
 use Rattle.meaning.proofs.Reading.{arc_fine, node_fine, given_more}
 use Rattle.meaning.specs.declared.Limits.{Limits}
@@ -25,10 +25,9 @@ use Rattle.meaning.specs.declared.Entry.{Entry}
 use Rattle.meaning.specs.declared.Entry.TheVariants.{Arc, Point, Site}
 use Rattle.meaning.specs.declared.Line.TheVariants.{Data}
 use Rattle.reading.specs.Marks.{is_marked, Added}
-use Rattle.reading.specs.Rows.{row_of, Rows}
-use Rattle.reading.specs.Follows.{only_once, data_fault, Small, Ready, Keeps, Tracks, Follows, Answers}
+use Rattle.reading.specs.Rows.{Rows}
+use Rattle.reading.specs.Follows.{only_once, data_fault, Small, Ready, Keeps, Went, Opened, Tracks, Follows, Answers}
 use Rattle.reading.specs.declared.Reader.{Reader}
-use Rattle.reading.specs.declared.Row.{Row}
 
 -- ---- counts that were accepted
 
@@ -71,10 +70,15 @@ module _ (marks : List ℕ) (es : List Entry) (tracks : Tracks marks es) where
 
 -- ---- the rows: one entry more, at the place behind the others
 
-rows_on : (es : List Entry) (e : Entry) (rows : List Row) → length es < length rows → Rows es rows → Rows (es ++ e ∷ []) (set rows (length es) (row_of e))
-rows_on es e rows h q =
+rows_on : {A : Type 0} (row_of : Entry → A) (es : List Entry) (e : Entry) (rows : List A) → length es < length rows → Rows row_of es rows → Rows row_of (es ++ e ∷ []) (set rows (length es) (row_of e))
+rows_on {A} row_of es e rows h q =
     let n : length (es ++ e ∷ []) ≡ suc (length es) = length-append es (e ∷ []) ∙ add-one (length es) in
-    rw n (take-suc-set rows (length es) (row_of e) h ∙ ap (λ (l : List Row). l ++ row_of e ∷ []) q ∙ sym (map-append row_of es (e ∷ [])))
+    rw n (take-suc-set rows (length es) (row_of e) h ∙ ap (λ (l : List A). l ++ row_of e ∷ []) q ∙ sym (map-append row_of es (e ∷ [])))
+
+-- ---- before any entry, whatever the rows hold
+
+pub opened : {A : Type 0} (row_of : Entry → A) (R : Rules) (at : ℕ) (s : Reader) (rows : List A) (p : Progress) → Opened R at s p → Went row_of R at s rows p
+opened row_of R at s rows p o = record { rules_are = o.rules_are; at_is = o.at_is; keeps = record { stands = o.stands; rows_are = rw o.none_yet refl } }
 
 -- ---- a data line
 
@@ -91,7 +95,7 @@ most_rows_lem Coordinates = omega arith
 most_rows_lem Sites = omega arith
 
 -- the entry's node has a bit, a row holds its numbers, and there is one left
-pub record Fitting (e : Entry) (place : ℕ) (rows : List Row) : Type 0 where
+pub record Fitting {A : Type 0} (e : Entry) (place : ℕ) (rows : List A) : Type 0 where
   pub low : 1 ≤ node_of e
   pub high : node_of e ≤ 1024
   pub small : Small e
@@ -99,27 +103,27 @@ pub record Fitting (e : Entry) (place : ℕ) (rows : List Row) : Type 0 where
   pub inside : place < length rows
 
 -- a refusal by 7, or else by the test of the entry
-refused_by : (R : Rules) (at : ℕ) (s : Reader) (rows : List Row) (full : Bool) (x : Test) (n : Next) (fault : Fault) (r : Test)
+refused_by : {A : Type 0} (row_of : Entry → A) (R : Rules) (at : ℕ) (s : Reader) (rows : List A) (full : Bool) (x : Test) (n : Next) (fault : Fault) (r : Test)
     → and_then (cond full (Err DataMiscounted) fine) x ≡ Err fault → r ≡ Err fault
-    → Follows R at r s rows (cond full (stop DataMiscounted) (unless x n))
+    → Follows (Went row_of R at s rows) r (cond full (stop DataMiscounted) (unless x n))
 unfolding and_then
-refused_by R at s rows true x n fault r f is = is ∙ sym f
-refused_by R at s rows false (Ok tt) n fault r f is = absurd (not_fine fault (sym f))
-refused_by R at s rows false (Err other) n fault r f is = is ∙ sym f
+refused_by row_of R at s rows true x n fault r f is = is ∙ sym f
+refused_by row_of R at s rows false (Ok tt) n fault r f is = absurd (not_fine fault (sym f))
+refused_by row_of R at s rows false (Err other) n fault r f is = is ∙ sym f
 
 -- behind a problem line with those counts
-module _ (s : Reader) (rows : List Row) (e : Entry) (c : Counts) (some : s.counts ≡ Some c) where
-  awaits : Keeps s rows awaiting → ⊥
-  awaits k = let e : ◌≡◌ {A = Option Counts} (Some c) None = sym some ∙ k.counts_are in let z : ◌≡◌ {A = ℕ} 0 1 = cc in omega arith
+module _ {A : Type 0} (row_of : Entry → A) (s : Reader) (rows : List A) (e : Entry) (c : Counts) (some : s.counts ≡ Some c) where
+  awaits : Keeps row_of s rows awaiting → ⊥
+  awaits k = let e : ◌≡◌ {A = Option Counts} (Some c) None = sym some ∙ k.stands.counts_are in let z : ◌≡◌ {A = ℕ} 0 1 = cc in omega arith
 
-  has_begun : (d : Counts) (es : List Entry) → Keeps s rows (begun d es) → c ≡ d
-  has_begun d es k = let e : ◌≡◌ {A = Option Counts} (Some c) (Some d) = sym some ∙ k.counts_are in cc
+  has_begun : (d : Counts) (es : List Entry) → Keeps row_of s rows (begun d es) → c ≡ d
+  has_begun d es k = let e : ◌≡◌ {A = Option Counts} (Some c) (Some d) = sym some ∙ k.stands.counts_are in cc
 
   pub data_refused : (fault : Fault) → data_fault s.rules.limits c s.count e ≡ Err fault → (r : Test) → r ≡ Err fault
-      → (s' : Reader) (rows' : List Row) → Answers s rows (Data e) r s' rows'
+      → (s' : Reader) (rows' : List A) → Answers row_of s rows (Data e) r s' rows'
   data_refused fault f r is s' rows' awaiting k = absurd (awaits k)
   data_refused fault f r is s' rows' (begun d es) k =
-      refused_by s.rules s.at s' rows' (leb d.rows (length es)) (entry_fault s.rules.limits d.nodes e) _ fault r (rw (has_begun d es k, k.count_is) at f) is
+      refused_by row_of s.rules s.at s' rows' (leb d.rows (length es)) (entry_fault s.rules.limits d.nodes e) _ fault r (rw (has_begun d es k, k.stands.count_is) at f) is
 
   -- an entry without fault
   module _ (ready : Ready s rows) (f : data_fault s.rules.limits c s.count e ≡ fine) where
@@ -150,31 +154,33 @@ module _ (s : Reader) (rows : List Row) (e : Entry) (c : Counts) (some : s.count
     again : (es : List Entry) → Tracks s.marks es → repeated e es ≡ only_once e (is_marked s.marks (node_of e - 1))
     again es tracks = repeated_is e es ∙ ap (only_once e) (sym (tracked s.marks es tracks (node_of e) data_fits.low data_fits.high))
 
-    few : (d : Counts) (es : List Entry) → Keeps s rows (begun d es) → leb d.rows (length es) ≡ false
-    few d es k = lt-leb d.rows (length es) (rw (has_begun d es k, k.count_is) at (data_fine.0))
+    few : (d : Counts) (es : List Entry) → Keeps row_of s rows (begun d es) → leb d.rows (length es) ≡ false
+    few d es k = lt-leb d.rows (length es) (rw (has_begun d es k, k.stands.count_is) at (data_fine.0))
 
-    passes : (d : Counts) (es : List Entry) → Keeps s rows (begun d es) → entry_fault s.rules.limits d.nodes e ≡ fine
+    passes : (d : Counts) (es : List Entry) → Keeps row_of s rows (begun d es) → entry_fault s.rules.limits d.nodes e ≡ fine
     passes d es k = rw (has_begun d es k) at (data_fine.1)
 
-    pub data_twice : only_once e (is_marked s.marks (node_of e - 1)) ≡ true → (s' : Reader) (rows' : List Row) → Answers s rows (Data e) (Err GivenTwice) s' rows'
+    pub data_twice : only_once e (is_marked s.marks (node_of e - 1)) ≡ true → (s' : Reader) (rows' : List A) → Answers row_of s rows (Data e) (Err GivenTwice) s' rows'
     data_twice t s' rows' awaiting k = absurd (awaits k)
-    data_twice t s' rows' (begun d es) k = rw (few d es k, passes d es k, again es k.tracks ∙ t) refl
+    data_twice t s' rows' (begun d es) k = rw (few d es k, passes d es k, again es k.stands.tracks ∙ t) refl
 
     pub data_on : only_once e (is_marked s.marks (node_of e - 1)) ≡ false → (marks' : List ℕ) → Added s.marks (node_of e - 1) marks'
-        → Answers s rows (Data e) fine (record { rules = s.rules; at = s.at; counts = s.counts; count = s.count + 1; marks = marks' }) (set rows s.count (row_of e))
+        → Answers row_of s rows (Data e) fine (record { rules = s.rules; at = s.at; counts = s.counts; count = s.count + 1; marks = marks' }) (set rows s.count (row_of e))
     data_on t marks' a awaiting k = absurd (awaits k)
     data_on t marks' a (begun d es) k =
-        rw (few d es k, passes d es k, again es k.tracks ∙ t) (
+        rw (few d es k, passes d es k, again es k.stands.tracks ∙ t) (
           refl,
           record {
             rules_are = refl;
             at_is = refl;
             keeps = record {
-              counts_are = k.counts_are;
-              passed = k.passed;
-              count_is = ap (λ (n : ℕ). n + 1) k.count_is ∙ sym (length-append es (e ∷ []));
-              tracks = track_on s.marks es k.tracks marks' e data_fits.low a;
-              rows_are = rw k.count_is (rows_on es e rows (rw k.count_is at data_fits.inside) k.rows_are);
+              stands = record {
+                counts_are = k.stands.counts_are;
+                passed = k.stands.passed;
+                count_is = ap (λ (n : ℕ). n + 1) k.stands.count_is ∙ sym (length-append es (e ∷ []));
+                tracks = track_on s.marks es k.stands.tracks marks' e data_fits.low a;
+              };
+              rows_are = rw k.stands.count_is (rows_on row_of es e rows (rw k.stands.count_is at data_fits.inside) k.rows_are);
             };
           },
         )

@@ -14,7 +14,6 @@ use Rattle.meaning.specs.declared.Entry.TheVariants.{Arc, Point, Site}
 use Rattle.reading.specs.Marks.{is_marked}
 use Rattle.reading.specs.Said.{said_at}
 use Rattle.reading.specs.declared.Reader.{Reader}
-use Rattle.reading.specs.declared.Row.{Row}
 use Rattle.reading.specs.Rows.{Wide, Rows}
 
 abbrev pub moved_to : Reader → ℕ → Reader
@@ -48,7 +47,7 @@ Passed R None = Unit {0}
 Passed R (Some c) = counts_fault R c ≡ fine
 
 -- the paper's limits, which the counts keep, and a row for each entry
-pub record Ready (s : Reader) (rows : List Row) : Type 0 where
+pub record Ready {A : Type 0} (s : Reader) (rows : List A) : Type 0 where
   pub limits : s.rules.limits ≡ base
   pub passed : Passed s.rules s.counts
   pub wide : Wide s.rules.kind rows
@@ -68,44 +67,57 @@ entries_since (begun c es) = es
 abbrev pub Tracks : List ℕ → List Entry → Type 0
 Tracks marks es = (j : ℕ) → j < 1024 → is_marked marks j ≡ is_given (suc j) es
 
--- the counts of a problem line that was accepted, how many entries there are since, their marks and their rows
-pub record Keeps (s : Reader) (rows : List Row) (p : Progress) : Type 0 where
+-- the counts of a problem line that was accepted, how many entries there are since, and their marks
+pub record Stands (s : Reader) (p : Progress) : Type 0 where
   pub counts_are : s.counts ≡ counts_since p
   pub passed : Passed s.rules s.counts
   pub count_is : s.count ≡ length (entries_since p)
   pub tracks : Tracks s.marks (entries_since p)
-  pub rows_are : Rows (entries_since p) rows
+
+-- and the entries' rows
+pub record Keeps {A : Type 0} (row_of : Entry → A) (s : Reader) (rows : List A) (p : Progress) : Type 0 where
+  pub stands : Stands s p
+  pub rows_are : Rows row_of (entries_since p) rows
 
 -- ---- the code's answer to a line
 
 -- to go on under the same rules, where the next line starts at `at`
-pub record Went (R : Rules) (at : ℕ) (s : Reader) (rows : List Row) (p : Progress) : Type 0 where
+pub record Went {A : Type 0} (row_of : Entry → A) (R : Rules) (at : ℕ) (s : Reader) (rows : List A) (p : Progress) : Type 0 where
   pub rules_are : s.rules ≡ R
   pub at_is : s.at ≡ at
-  pub keeps : Keeps s rows p
+  pub keeps : Keeps row_of s rows p
 
--- before the first line, whatever the rows hold
+-- the same where no entry has come yet, whatever the rows hold
+pub record Opened (R : Rules) (at : ℕ) (s : Reader) (p : Progress) : Type 0 where
+  pub rules_are : s.rules ≡ R
+  pub at_is : s.at ≡ at
+  pub stands : Stands s p
+  pub none_yet : entries_since p ≡ []
+
+-- before the first line
 abbrev pub Starts : Rules → Reader → Type 0
-Starts R s = (rows : List Row) → Went R 0 s rows awaiting
+Starts R s = Opened R 0 s awaiting
 
-abbrev pub Follows : Rules → ℕ → Test → Reader → List Row → Next → Type 0
-Follows R at r s rows (go p) = (r ≡ fine) × Went R at s rows p
-Follows R at r s rows (stop fault) = r ≡ Err fault
+-- with the rules: it refuses as they do, or goes on so that it has gone on to their progress
+abbrev pub Follows : (Progress → Type 0) → Test → Next → Type 0
+Follows Gone r (go p) = (r ≡ fine) × Gone p
+Follows Gone r (stop fault) = r ≡ Err fault
 
 -- whatever progress the code stands at, it answers what the rules say of that line
-abbrev pub Answers : Reader → List Row → Line → Test → Reader → List Row → Type 0
-Answers s rows line r s' rows' = (p : Progress) → Keeps s rows p → Follows s.rules s.at r s' rows' (step s.rules p line)
+abbrev pub Answers : {A : Type 0} → (Entry → A) → Reader → List A → Line → Test → Reader → List A → Type 0
+Answers row_of s rows line r s' rows' =
+    (p : Progress) → Keeps row_of s rows p → Follows (Went row_of s.rules s.at s' rows') r (step s.rules p line)
 
 -- a problem line touches neither marks nor rows
 pub record AnswersProblem (s : Reader) (c : Counts) (r : Test) (s' : Reader) : Type 0 where
   pub marks_stay : s'.marks ≡ s.marks
-  pub answers : (rows : List Row) → Answers s rows (Problem c) r s' rows
+  pub answers : (p : Progress) → Stands s p → Follows (Opened s.rules s.at s') r (step s.rules p (Problem c))
 
 -- the line that starts where the state says
-abbrev pub AnswersNext : List ℕ → Reader → List Row → Test → Reader → List Row → Type 0
-AnswersNext text s rows r s' rows' =
+abbrev pub AnswersNext : {A : Type 0} → (Entry → A) → List ℕ → Reader → List A → Test → Reader → List A → Type 0
+AnswersNext row_of text s rows r s' rows' =
     let said = said_at s.rules.kind s.rules.given text s.at in
-    Answers (moved_to s said.next) rows said.line r s' rows'
+    Answers row_of (moved_to s said.next) rows said.line r s' rows'
 
 -- at the end of the text, by the counts alone
 abbrev pub Finishes : Reader → Result Counts Refusal → Type 0

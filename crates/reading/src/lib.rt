@@ -3,24 +3,50 @@
 
 ghost use Rattle.std.specs.Prelude.{◌≡◌, ◌≤◌, cond, length, nat_abs, Err};
 ghost use Rattle.meaning.specs.Limits.{base, fine};
+ghost use Rattle.meaning.specs.declared.Entry.{Entry};
 ghost use Rattle.meaning.specs.Text.{lines};
-ghost use Rattle.meaning.specs.Files.{within as is_within, is_coordinate, most_rows, agrees as is_agreed, counts_fault, entry_fault, node_of, awaiting, read_from, handed_in, reading, answered};
+ghost use Rattle.meaning.specs.Files.{
+  within as is_within,
+  is_coordinate,
+  most_rows,
+  agrees as is_agreed,
+  counts_fault,
+  entry_fault,
+  node_of,
+  awaiting,
+  read_from,
+  handed_in,
+  reading,
+  answered,
+};
 ghost use Rattle.reading.specs.Said.{said_at};
-ghost use Rattle.reading.specs.Rows.{Wide, row_of, RowsRead};
-ghost use Rattle.reading.specs.Follows.{only_once, too_many, data_fault, Small, Ready, Starts, Finishes, Answers, AnswersProblem, AnswersNext};
+ghost use Rattle.reading.specs.Rows.{Wide, RowsRead};
+ghost use Rattle.reading.specs.Follows.{
+  only_once,
+  too_many,
+  data_fault,
+  Small,
+  Ready,
+  Starts,
+  Finishes,
+  Answers,
+  AnswersProblem,
+  AnswersNext,
+};
 
 pub use marks::Marks;
 use meaning::{Counts, Entry, Fault, Kind, Limits, Line, Refusal, Rules};
 
 mod marks;
 
-// An entry as it is kept until the last line has been judged: its node, and head and weight, or X
-// and Y.
-#[derive(Clone, Copy, Default)]
-pub struct Row {
-    pub node: u16,
-    pub second: i32,
-    pub third: i32,
+// An entry as it is kept until the last line has been judged.
+pub trait Row: Copy {
+    ghost row_of: { Entry → Self };
+
+    // An entry whose numbers a row can hold.
+    fn of(e: Entry) -> Self
+        requires { Small e }
+        ensures { result ≡ row_of e };
 }
 
 // How far the lines of a text have been judged: what they are held to, where the next one starts,
@@ -158,30 +184,6 @@ fn only_once(e: Entry, given: bool) -> bool
     given && !matches!(e, Entry::Arc { .. })
 }
 
-// A row of an entry whose numbers it can hold.
-fn row_of(e: Entry) -> Row
-    requires { Small e }
-    ensures { result ≡ row_of e }
-{
-    match e {
-        Entry::Arc { tail, head, weight } => Row {
-            node: tail as u16,
-            second: head as i32,
-            third: weight as i32,
-        },
-        Entry::Point { node, x, y } => Row {
-            node: node as u16,
-            second: x,
-            third: y,
-        },
-        Entry::Site { node } => Row {
-            node: node as u16,
-            second: 0,
-            third: 0,
-        },
-    }
-}
-
 fn handed_in(limits: Limits, kind: Kind, n: usize) -> bool
     ensures { result ≡ handed_in limits kind n }
 {
@@ -244,9 +246,9 @@ impl Reader {
 
     // A data line. Its node is marked in any text; an arc may repeat one. An entry without a fault
     // is kept as a row.
-    fn add(&mut self, rows: &mut [Row], e: Entry) -> Result<(), Fault>
+    fn add<R: Row>(&mut self, rows: &mut [R], e: Entry) -> Result<(), Fault>
         requires { Ready self.old rows.old }
-        ensures { Answers self.old rows.old (Line.Data e) result self.new rows.new }
+        ensures { Answers R.row_of self.old rows.old (Line.Data e) result self.new rows.new }
     {
         let counts = self.counts.ok_or(Fault::ProblemMisplaced)?;
         data_fault(self.rules.limits, counts, self.count, e)?;
@@ -255,15 +257,15 @@ impl Reader {
             return Err(Fault::GivenTwice);
         }
         self.marks.insert(k);
-        rows[self.count] = row_of(e);
+        rows[self.count] = R::of(e);
         self.count += 1;
         Ok(())
     }
 
     // A line, by what it says.
-    fn advance(&mut self, rows: &mut [Row], line: Line) -> Result<(), Fault>
+    fn advance<R: Row>(&mut self, rows: &mut [R], line: Line) -> Result<(), Fault>
         requires { Ready self.old rows.old }
-        ensures { Answers self.old rows.old line result self.new rows.new }
+        ensures { Answers R.row_of self.old rows.old line result self.new rows.new }
     {
         match line {
             Line::Nothing => Ok(()),
@@ -274,10 +276,10 @@ impl Reader {
     }
 
     // The next line.
-    fn next_line(&mut self, text: &[u8], rows: &mut [Row]) -> Result<(), Fault>
+    fn next_line<R: Row>(&mut self, text: &[u8], rows: &mut [R]) -> Result<(), Fault>
         requires at_in_bounds { self.old.at ≤ length text.now }
         requires ready { Ready self.old rows.old }
-        ensures { AnswersNext text.now self.old rows.old result self.new rows.new }
+        ensures { AnswersNext R.row_of text.now self.old rows.old result self.new rows.new }
     {
         let said = said_at(self.rules.kind, self.rules.given, text, self.at);
         self.at = said.next;
@@ -298,10 +300,10 @@ impl Reader {
 }
 
 // The lines in order, of a text whose size and handed-in N have been tested.
-fn judge(rules: Rules, text: &[u8], rows: &mut [Row]) -> Result<Counts, Refusal>
+fn judge<R: Row>(rules: Rules, text: &[u8], rows: &mut [R]) -> Result<Counts, Refusal>
     requires limits_value { rules.limits ≡ base }
     requires wide { Wide rules.kind rows.old }
-    ensures rows_read { RowsRead (read_from rules (lines text.now) awaiting 0) rows.new }
+    ensures rows_read { RowsRead R.row_of (read_from rules (lines text.now) awaiting 0) rows.new }
     ensures value { result ≡ answered (read_from rules (lines text.now) awaiting 0) }
 {
     let mut reader = Reader::new(rules);
@@ -316,24 +318,23 @@ fn judge(rules: Rules, text: &[u8], rows: &mut [Row]) -> Result<Counts, Refusal>
 }
 
 // The answer of a reader: the text's size, then a handed-in N, then the lines.
-pub fn judged(
+pub fn judged<R: Row>(
     kind: Kind,
     given: usize,
     room: usize,
     text: &[u8],
-    rows: &mut [Row],
+    rows: &mut [R],
 ) -> Result<Counts, Refusal>
     requires { Wide kind rows.old }
-    ensures rows_read { RowsRead (reading (record { limits = base; kind = kind; given = given; room = room }) text.now) rows.new }
-    ensures value { result ≡ answered (reading (record { limits = base; kind = kind; given = given; room = room }) text.now) }
+    ensures rows_read { RowsRead R.row_of
+        (reading (record { limits = base; kind = kind; given = given; room = room }) text.now)
+        rows.new }
+    ensures value { result ≡ answered
+        (reading (record { limits = base; kind = kind; given = given; room = room }) text.now) }
 {
     let limits = meaning::base();
-    if limits.text < text.len() {
-        return Err(Fault::TextTooLong.at(0));
-    }
-    if !handed_in(limits, kind, given) {
-        return Err(Fault::CountOutside.at(0));
-    }
+    test(text.len() <= limits.text, Fault::TextTooLong).map_err(|fault| fault.at(0))?;
+    test(handed_in(limits, kind, given), Fault::CountOutside).map_err(|fault| fault.at(0))?;
     let rules = Rules {
         limits,
         kind,

@@ -3,14 +3,15 @@ use lib.ListN.{length}
 use Rattle.std.proofs.Common.{rules, ◌≡◌, sym}
 use Rattle.meaning.specs.Limits.{base}
 use Rattle.meaning.specs.Files.{graph_rules}
+use Rattle.readers.specs.Writing.{arc_row}
 use Rattle.readers.proofs.Outcomes.{Taken, taken, counted, enough, arcs_fit, graph_written}
 use Rattle.readers.proofs.read_graph.Goals as goal
 use Rattle.readers.proofs.read_graph.Goals.{In_ok-counts}
 
-was_taken : (c : In_ok-counts) → Taken (graph_rules base (min (length c.args.tails.now) (min (length c.args.heads.now) (length c.args.weights.now)))) c.args.text.now c.in_ok-counts.counts c.judged.new.rows
+was_taken : (c : In_ok-counts) → Taken arc_row (graph_rules base (min (length c.args.tails.now) (min (length c.args.heads.now) (length c.args.weights.now)))) c.args.text.now c.in_ok-counts.counts c.judged.new.rows
 was_taken c =
     let room : c.min-room.result ≡ min (length c.args.tails.now) (min (length c.args.heads.now) (length c.args.weights.now)) = search rules in
-    taken _ c.args.text.now c.judged.new.rows c.judged.result c.in_ok-counts.counts (rw room at c.judged.ensures.rows_read) (rw room at c.judged.ensures.value) c.in_ok-counts.was
+    taken arc_row _ c.args.text.now c.judged.new.rows c.judged.result c.in_ok-counts.counts (rw room at c.judged.ensures.rows_read) (rw room at c.judged.ensures.value) c.in_ok-counts.was
 
 pub slice_bounds-rows-end : goal.slice_bounds-rows-end
 slice_bounds-rows-end c = enough (was_taken (goal.at.slice_bounds-rows-end c).In_ok-counts)
