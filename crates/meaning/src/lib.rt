@@ -1,4 +1,5 @@
-// The words in which the library speaks: its limits, what a line of a text says, and its answers. What each of them means stands in specs/.
+// The words in which the library speaks: its limits, what a line of a text says, and its
+// answers. What each of them means stands in specs/.
 #![tactic(auto)]
 
 ghost use Rattle.std.specs.Prelude.{◌≡◌};
@@ -6,7 +7,8 @@ ghost use Rattle.meaning.specs.Limits.{base as base_limits, fault_number, refusa
 
 use std::fmt;
 
-// The limits of the paper, in one record: text in bytes, weight and coordinate as the largest sizes permitted.
+// The limits of the paper, in one record: text in bytes, weight and coordinate as the largest
+// sizes permitted.
 #[derive(Clone, Copy)]
 pub struct Limits {
     pub text: usize,
@@ -84,6 +86,7 @@ impl fmt::Display for Fault {
             Fault::GivenTwice => "a node is given twice",
             Fault::TableShort => "a table is shorter than its count",
             Fault::ArcShort => "an arc is shorter than the straight line between its ends",
+            // These are of a call, not of a text: whoever made it knows what it asked.
             Fault::QueryOutside | Fault::KOutside | Fault::RoomShort => "the call was refused",
         })
     }
@@ -124,7 +127,8 @@ impl fmt::Display for Refusal {
     }
 }
 
-// The counts of a problem line: the nodes, and the data lines to come. An accepted reading answers with them.
+// The counts of a problem line: the nodes, and the data lines to come. An accepted reading
+// answers with them.
 #[derive(Clone, Copy, PartialEq, Eq, Debug)]
 pub struct Counts {
     pub nodes: usize,
@@ -158,7 +162,8 @@ pub enum Line {
     Malformed,
 }
 
-// The lent tables of a region, with the counts N, M and S.
+// The lent tables of a region, with the counts N, M and S: a column may be lent longer than its
+// count.
 #[derive(Clone, Copy)]
 pub struct Tables<'a> {
     pub tails: &'a [u16],
@@ -172,7 +177,8 @@ pub struct Tables<'a> {
     pub s: usize,
 }
 
-// What a text is held to: the limits, which text it is, the N handed in (a graph text is handed none) and the room for its data.
+// What a text is held to: the limits, which text it is, the N handed in (a graph text is handed
+// none) and the room for its data.
 #[derive(Clone, Copy)]
 pub struct Rules {
     pub limits: Limits,

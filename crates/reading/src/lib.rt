@@ -308,6 +308,7 @@ fn judge<R: Row>(rules: Rules, text: &[u8], rows: &mut [R]) -> Result<Counts, Re
 {
     let mut reader = Reader::new(rules);
     let mut place = 0;
+    // By the lines' positions; they are counted for a refusal's place.
     while reader.at < text.len() {
         place += 1;
         reader
@@ -317,7 +318,8 @@ fn judge<R: Row>(rules: Rules, text: &[u8], rows: &mut [R]) -> Result<Counts, Re
     reader.finish()
 }
 
-// The answer of a reader: the text's size, then a handed-in N, then the lines.
+// The answer of a reader: the text's size, then a handed-in N, then the lines. It is told what
+// differs between readers; the limits are the paper's for each.
 pub fn judged<R: Row>(
     kind: Kind,
     given: usize,

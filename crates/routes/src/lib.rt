@@ -1,4 +1,5 @@
 // The routes: back from each listed site by the nodes before, and written from query to site.
+// The memory and the rooms are the lent slices, as the search has them.
 #![tactic(auto)]
 
 ghost use Rattle.std.specs.Prelude.{◌≡◌, map, suc, ◌+◌, ◌*◌, ◌≤◌, ◌<◌, length, take};
