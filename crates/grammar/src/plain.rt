@@ -1,5 +1,6 @@
 // Data lines in their plain form, read in one go: the word, one space, the numbers with one space
-// between them, LF. What isn't plain is left to `line_of`.
+// between them, LF. What isn't plain is left to `line_of`. The hints on inlining keep a short text's
+// lines from costing half as much again. A cast narrows where the proof shows that the number fits.
 ghost use Rattle.std.specs.Prelude.{◌≡◌, ◌∷◌, IfSome};
 ghost use Rattle.grammar.specs.Plain.{Says, DigitsSaid, SignedRead};
 ghost use Rattle.meaning.specs.declared.Kind.TheVariants.{Graph, Coordinates, Sites};
@@ -56,6 +57,7 @@ fn numbers(line: &[u8], w: u8) -> Option<&[u8]>
 }
 
 // a U V W
+#[inline(always)]
 fn arc(line: &[u8]) -> Option<(Entry, &[u8])>
     ensures { IfSome result (λ p. Says Graph line.now p.0 p.1.now) }
 {
@@ -67,6 +69,7 @@ fn arc(line: &[u8]) -> Option<(Entry, &[u8])>
 }
 
 // v ID X Y
+#[inline(always)]
 fn point(line: &[u8]) -> Option<(Entry, &[u8])>
     ensures { IfSome result (λ p. Says Coordinates line.now p.0 p.1.now) }
 {
@@ -78,6 +81,7 @@ fn point(line: &[u8]) -> Option<(Entry, &[u8])>
 }
 
 // s ID
+#[inline(always)]
 fn site(line: &[u8]) -> Option<(Entry, &[u8])>
     ensures { IfSome result (λ p. Says Sites line.now p.0 p.1.now) }
 {
@@ -88,6 +92,7 @@ fn site(line: &[u8]) -> Option<(Entry, &[u8])>
 
 // What the first line of a text of that kind says, if it is a plain data line, and the text after
 // it.
+#[inline(always)]
 pub fn plain_line(kind: Kind, text: &[u8]) -> Option<(Entry, &[u8])>
     ensures { IfSome result (λ p. Says kind text.now p.0 p.1.now) }
 {

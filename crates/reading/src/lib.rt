@@ -195,6 +195,7 @@ fn handed_in(limits: Limits, kind: Kind, n: usize) -> bool
 
 // What the line that starts at a position says. A plain data line is read in one go, any other
 // field by field.
+#[inline(always)]
 fn said_at(kind: Kind, given: usize, text: &[u8], at: usize) -> Said
     requires { at ≤ length text.now }
     ensures { result ≡ said_at kind given text.now at }
