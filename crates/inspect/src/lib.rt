@@ -189,6 +189,7 @@ impl Entries<'_> {
 }
 
 // A search trusts no table: all counts 4, tables 9, query 11, k 12, rooms 13, and then the entries.
+// The rooms come one by one, as the search has them.
 #[tactic(auto, unfolding(meaning::specs::Checks::inspect, crate::specs::Entries::of_entries))]
 pub fn inspect(
     t: &Tables,

@@ -31,7 +31,8 @@ fn refused(refusal: Refusal) -> u64
     packed(usize::from(refusal.fault), refusal.place, 0)
 }
 
-// The two codes that follow are alike, but each promises the number of a definition of its own.
+// The two codes that follow are alike, but each promises the number of a definition of its own,
+// read_code and answer_code of meaning's Boundary.
 fn read_code(answer: Result<Counts, Refusal>) -> u64
     requires { ReadFits answer }
     ensures { result ≡ read_code answer }

@@ -137,6 +137,7 @@ pub fn read_graph(
 {
     let room = tails.len().min(heads.len().min(weights.len()));
     let mut rows = [ArcRow::default(); ARCS_MOST];
+    // A graph text is handed no N; its rules (specs/Files of meaning) write 0 for it.
     let counts = reading::judged(Kind::Graph, 0, room, text, &mut rows)?;
     write_arcs(&rows[..counts.rows], tails, heads, weights);
     Ok(counts)

@@ -221,6 +221,8 @@ fn said_at(kind: Kind, given: usize, text: &[u8], at: usize) -> Said
     }
 }
 
+// The rows stay the caller's, beside the reader: a struct of both would hold a `&mut`, whose ghost
+// name each clause would have to carry. So Ready, which is about both, stands in the clauses.
 impl Reader {
     // Before the first line.
     fn new(rules: Rules) -> Reader
@@ -320,7 +322,8 @@ fn judge<R: Row>(rules: Rules, text: &[u8], rows: &mut [R]) -> Result<Counts, Re
 }
 
 // The answer of a reader: the text's size, then a handed-in N, then the lines. It is told what
-// differs between readers; the limits are the paper's for each.
+// differs between readers; the limits are the paper's for each. The room is the length of the
+// caller's tables, not that of rows.
 pub fn judged<R: Row>(
     kind: Kind,
     given: usize,

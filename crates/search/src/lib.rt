@@ -76,7 +76,7 @@ fn run(
     taking::start(r, work, guide, query - 1);
     let mut sites = 0;
     let mut taken = 0;
-    // A step a node that is taken.
+    // A step a node that is taken; how many are is known only when no node is next.
     while let Some(u) = next(r, work, guide, k, sites) {
         let site = taking::take(network, work, guide, u);
         sites = list(r, work, u, site, listed, lengths, sites);
