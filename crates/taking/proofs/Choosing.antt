@@ -160,12 +160,13 @@ module _ (t : Tables) (g : Ground t) {s : State} {from rest w : List ℕ} (L : L
 
 -- ---- the loop
 
--- estimates have been stored, and the same state is held
-pub record Keeping (t : Tables) (w₀ w : List ℕ) (guide : Guide) : Type 0 where
+-- estimates have been stored, and the same state is held; the sites stand where they stood
+pub record Keeping (t : Tables) (w₀ w : List ℕ) (guide₀ guide : Guide) : Type 0 where
   pub size : length w ≡ length w₀
   pub guided : Guided t w guide
+  pub aims : guide.aims ≡ guide₀.aims
   pub same : SameTaken t.n w₀ w
   pub stays : Stays t w₀ w
 
-pub held : (t : Tables) {w₀ w : List ℕ} {guide : Guide} (A : Aiming t w₀) → Keeping t w₀ w guide → Live t A.state A.from A.rest w
+pub held : (t : Tables) {w₀ w : List ℕ} {guide₀ guide : Guide} (A : Aiming t w₀) → Keeping t w₀ w guide₀ guide → Live t A.state A.from A.rest w
 held t A K = K.stays A.state A.from A.rest A.left A.aims A.live

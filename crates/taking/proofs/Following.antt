@@ -69,12 +69,13 @@ relaxed_own t u i w w₁ w₂ l e x r s from rest H k =
     head_reached t u d i s₁ from₁ rest w₂ (omega arith) (rw c at (x s₁ from₁ rest (omega arith) (r s from rest H k)))
 
 -- the arcs before arc `passed` have been followed, or are other nodes'; `arc` is the next of u
-pub record Following (t : Tables) (u : ℕ) (w w' : List ℕ) (guide' : Guide) (arc : Option ℕ) : Type 0 where
+pub record Following (t : Tables) (u : ℕ) (w w' : List ℕ) (guide guide' : Guide) (arc : Option ℕ) : Type 0 where
   pub passed : ℕ
   pub most : passed ≤ t.m
   pub next : arc ≡ place_of (seek t.tails (suc u) passed (t.m - passed))
   pub size : length w' ≡ length w
   pub guided : Guided t w' guide'
+  pub aims : guide'.aims ≡ guide.aims
   pub done : Relaxed t u passed w w'
 
 -- how many of m arcs may still follow
@@ -82,7 +83,7 @@ abbrev pub left : ℕ → Option ℕ → ℕ
 left m None = 0
 left m (Some i) = m - i
 
-pub follow_none : {t : Tables} {u : ℕ} {w : List ℕ} {guide : Guide} {arc : Option ℕ} → Guided t w guide → arc ≡ place_of (seek_first t u) → Following t u w w guide arc
+pub follow_none : {t : Tables} {u : ℕ} {w : List ℕ} {guide : Guide} {arc : Option ℕ} → Guided t w guide → arc ≡ place_of (seek_first t u) → Following t u w w guide guide arc
 unfolding relax_to parents_to
 follow_none {t} g e = record {
   passed = 0;
@@ -90,10 +91,11 @@ follow_none {t} g e = record {
   next = let z : t.m - 0 ≡ t.m = omega arith in rw z e;
   size = refl;
   guided = g;
+  aims = refl;
   done = λ s from rest H k. H;
 }
 
-module _ {t : Tables} {u : ℕ} {w w₁ : List ℕ} {guide₁ : Guide} {arc : Option ℕ} (A : Arcs t) (r : Following t u w w₁ guide₁ arc) where
+module _ {t : Tables} {u : ℕ} {w w₁ : List ℕ} {guide guide₁ : Guide} {arc : Option ℕ} (A : Arcs t) (r : Following t u w w₁ guide guide₁ arc) where
   -- no arc of u is left
   pub follow_all : arc ≡ None → Relaxed t u t.m w w₁
   follow_all e =
@@ -120,8 +122,8 @@ module _ {t : Tables} {u : ℕ} {w w₁ : List ℕ} {guide₁ : Guide} {arc : Op
             omega (arith, follow_below, M.from, M.below)
 
     pub follow_one : u < t.n → {w₂ : List ℕ} {guide₂ : Guide} (h : ℕ) {after : Option ℕ} → h ≡ get_or t.heads i 0 - 1 → after ≡ place_of (seek_next t i)
-        → length w₂ ≡ length w₁ → Guided t w₂ guide₂ → Reached t u h (get_or w u 0 + get_or t.weights i 0) w₁ w₂ → Following t u w w₂ guide₂ after
-    follow_one l {w₂} h is d size g x =
+        → length w₂ ≡ length w₁ → Guided t w₂ guide₂ → guide₂.aims ≡ guide₁.aims → Reached t u h (get_or w u 0 + get_or t.weights i 0) w₁ w₂ → Following t u w w₂ guide guide₂ after
+    follow_one l {w₂} h is d size g a x =
         let M = met in
         let b = follow_below in
         record {
@@ -130,6 +132,7 @@ module _ {t : Tables} {u : ℕ} {w w₁ : List ℕ} {guide₁ : Guide} {arc : Op
           next = rw M.leaves at d;
           size = size ∙ r.size;
           guided = g;
+          aims = a ∙ r.aims;
           done = relaxed_own t u i w w₁ w₂ l M.leaves (rw is at x) (relaxed_past t u w w₁ A.tail_low r.passed i M.from (omega arith) M.apart r.done);
         }
 

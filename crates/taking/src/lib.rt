@@ -106,6 +106,7 @@ fn reach(r: &Region, work: &mut [u32], guide: &mut Guide, u: usize, h: usize, le
     requires head_is_node { h < r.now.n }
     requires guided { Guided r.now work.old guide.old }
     ensures guided_after { Guided r.now work.new guide.new }
+    ensures aims_stay { guide.new.aims ≡ guide.old.aims }
     ensures reached { Reached r.now u h len work.old work.new }
 {
     let n = r.nodes();
@@ -131,6 +132,7 @@ fn relax(network: &Network, work: &mut [u32], guide: &mut Guide, u: usize)
     requires bounded { Bounded network.now.region work.old }
     requires guided { Guided network.now.region work.old guide.old }
     ensures guided_after { Guided network.now.region work.new guide.new }
+    ensures aims_stay { guide.new.aims ≡ guide.old.aims }
     ensures relaxed { Relaxed network.now.region u network.now.region.m work.old work.new }
 {
     let r = &network.region;
@@ -171,6 +173,7 @@ pub fn take(network: &Network, work: &mut [u32], guide: &mut Guide, u: usize) ->
     requires guided { Guided network.now.region work.old guide.old }
     ensures site_told { SiteTold network.now.region.n work.old u result }
     ensures guided_after { Guided network.now.region work.new guide.new }
+    ensures ys_stay { guide.new.aims.ys ≡ guide.old.aims.ys }
     ensures took { Took network.now.region u work.old work.new }
 {
     let r = &network.region;
@@ -189,6 +192,7 @@ fn fresh(r: &Region, work: &mut [u32], guide: &mut Guide, v: usize) -> bool
     requires untaken { is_taken r.now.n work.old v ≡ false }
     requires guided { Guided r.now work.old guide.old }
     ensures guided_after { Guided r.now work.new guide.new }
+    ensures aims_stay { guide.new.aims ≡ guide.old.aims }
     ensures same_taken { SameTaken r.now.n work.old work.new }
     ensures looked { Looked r.now v work.old work.new result }
 {
@@ -209,6 +213,7 @@ pub fn choose(r: &Region, work: &mut [u32], guide: &mut Guide, missed: bool) -> 
     requires guided { Guided r.now work.old guide.old }
     requires aiming { Aiming r.now work.old }
     ensures guided_after { Guided r.now work.new guide.new }
+    ensures aims_stay { guide.new.aims ≡ guide.old.aims }
     ensures same_taken { SameTaken r.now.n work.old work.new }
     ensures stays { Stays r.now work.old work.new }
     ensures chosen { Chosen r.now missed work.old result }

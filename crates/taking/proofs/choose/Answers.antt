@@ -62,6 +62,7 @@ loop-v-preserved c =
     record {
       size = c.fresh.auto.work ∙ inv.size;
       guided = c.fresh.ensures.guided_after;
+      aims = c.fresh.ensures.aims_stay ∙ inv.aims;
       same = λ v l. c.fresh.ensures.same_taken v l ∙ inv.same v l;
       stays = λ state from rest j m L. raised _ c.nodes-n.ensures.sound.ground
           (inv.stays state from rest j m L) _ (top (goal.at.loop-v-preserved c).In_ok-v) k;

@@ -37,7 +37,7 @@ pub loop-arc-preserved : goal.loop-arc-preserved
 loop-arc-preserved c =
     follow_one c.args.network.now.sound.arcs c.loop-arc.invariant c.in-Some.is
     c.requires.u_in_bounds.1 c.head.result c.head.ensures.value c.next-arc.ensures
-    c.reach.auto.work c.reach.ensures.guided_after (rw c.weight.ensures at c.reach.ensures.reached)
+    c.reach.auto.work c.reach.ensures.guided_after c.reach.ensures.aims_stay (rw c.weight.ensures at c.reach.ensures.reached)
 
 pub returns-clause-relaxed : goal.returns-clause-relaxed
 returns-clause-relaxed c =
