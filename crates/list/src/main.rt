@@ -2,6 +2,8 @@
 // prints the list of each query. With an argument it tells a refusal in words too.
 #![tactic(auto)]
 
+ghost use Rattle.std.specs.Prelude.{◌≤◌, length};
+
 use pack::TEXT_ROOM;
 use std::env::FillError;
 use std::rt::{Env, Files};
@@ -15,7 +17,9 @@ fn has_ended(file: &mut impl io::Read) -> bool {
 
 // The file's bytes, as many as fit.
 // A file that can't be opened or read counts as an empty text.
-fn load<'t>(rt: &impl Files, name: &str, text: &'t mut [u8]) -> &'t [u8] {
+fn load<'t>(rt: &impl Files, name: &str, text: &'t mut [u8]) -> &'t [u8]
+    ensures { length result.now ≤ length text.old }
+{
     let Ok(mut file) = fs::open(rt, name) else {
         return &[];
     };

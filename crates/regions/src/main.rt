@@ -3,11 +3,15 @@
 // A read that fails ends the input. A write that fails ends the program with that error.
 #![tactic(auto)]
 
+ghost use Rattle.std.specs.Prelude.{◌≤◌, length};
+
 use pack::TEXT_ROOM;
 use std::io;
 
 // The next text, of the size that the field tells, or what the buffer holds of it.
-fn fetch<'t>(input: &mut impl io::Read, field: &[u8], text: &'t mut [u8]) -> &'t [u8] {
+fn fetch<'t>(input: &mut impl io::Read, field: &[u8], text: &'t mut [u8]) -> &'t [u8]
+    ensures { length result.now ≤ length text.old }
+{
     let size = text::number(field).unwrap_or(0);
     let room = text.len();
     let got = pack::read_full(input, &mut text[..size.min(room)]);
