@@ -123,7 +123,7 @@ one_digit b d v l e =
     rw (le-leb 48 b (omega arith), le-leb b 57 (omega arith), k)
 
 module _ {text : List ℕ} {i v : ℕ} (s : Sofar text i v) where
-  sofar_small : i ≤ 9 → v < 1000000000
+  pub sofar_small : i ≤ 9 → v < 1000000000
   sofar_small h = omega (arith, s.small, pow-le-pow_right {n = 10} (omega arith) {i = i} {j = 9} h)
 
   pub sofar_more : (d : ℕ) → i < length text → d ≤ 9 → get_or text i 0 ≡ d + 48 → Sofar text (i + 1) (v * 10 + d)

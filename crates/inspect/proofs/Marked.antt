@@ -25,7 +25,7 @@ still seen after k a h m = h.bits a ∙ rw (m, or-true (eqb a k))
 there : (seen after : List ℕ) (k : ℕ) → Added seen k after → is_marked after k ≡ true
 there seen after k h = h.bits k ∙ rw (eq-eqb k k refl)
 
-none_given : (xs : List ℕ) (v j : ℕ) → ((i : ℕ) → i < j → get_or xs i 0 ≡ v → ⊥) → any (λ i. eqb (get_or xs i 0) v) j ≡ false
+pub none_given : (xs : List ℕ) (v j : ℕ) → ((i : ℕ) → i < j → get_or xs i 0 ≡ v → ⊥) → any (λ i. eqb (get_or xs i 0) v) j ≡ false
 unfolding any
 none_given xs v zero q = refl
 none_given xs v (suc j) q = rw (none_given xs v j (λ i l. q i (omega arith)), ne_eqb (get_or xs j 0) v (q j (omega arith)))

@@ -19,7 +19,7 @@ use Rattle.meaning.specs.Straight.{gap, root, root_to, squares}
 use Rattle.meaning.proofs.Estimates.{gap_self}
 use Rattle.meaning.proofs.Scans.{any_is}
 use Rattle.straight.specs.Points.{farthest}
-use Rattle.straight.proofs.Laws.{root_small, square_small, square_large, squares_small, back, back_near, Square, square_back}
+use Rattle.straight.proofs.Laws.{root_small, square_small, square_large, squares_small, back, back_near, Square, square_near}
 use Rattle.memory.specs.Memory.{is_taken}
 use Rattle.memory.specs.Aim.{Ground, SideBySide, Sized, node_of, site_in, closer_of, least_to, line_to, line_most, far_off, nearer}
 use Rattle.memory.proofs.Columns.{site_below}
@@ -49,8 +49,8 @@ module _ {t : Tables} (G : Ground t) (v : ℕ) where
 module _ {x y a b : ℤ} (S : Sized x y a b) {p q : ℕ} (e : Square p (back x) (back a)) (f : Square q (back y) (back b)) where
   sum_is : p + q ≡ gap x a * gap x a + gap y b * gap y b
   sum_is =
-      ap₂ ◌+◌ (square_back x a (omega (arith, S.near_x)) (omega (arith, S.near_a)) e)
-      (square_back y b (omega (arith, S.near_y)) (omega (arith, S.near_b)) f)
+      ap₂ ◌+◌ (square_near x a (omega (arith, S.near_x)) (omega (arith, S.near_a)) e)
+      (square_near y b (omega (arith, S.near_y)) (omega (arith, S.near_b)) f)
 
   pub sum_fits : p + q ≤ 2880000000000000000
   sum_fits =

@@ -106,7 +106,7 @@ module _ {t : Tables} {q k : ℕ} (P : Passed t q k) {i : ℕ} {work listed leng
   from = parents_after (region_of t) (aim_of t) k (q - 1) i
 
   -- a length that has been seen, or 0
-  bounds : Bounded t w
+  pub bounds : Bounded t w
   bounds v b = go (get_or here.best v 0) refl
     where
       go : (x : ℕ) → get_or here.best v 0 ≡ x → get_or w v 0 ≤ entry_most
@@ -138,7 +138,7 @@ module _ {t : Tables} {q k : ℕ} (P : Passed t q k) {i : ℕ} {work listed leng
     pub aiming : Aiming t w
     aiming = record { state = here; from = from; rest = drop (4 * t.n) work; live = ran.live; left = (left b).0; aims = (left b).2 }
 
-    renewed : {w' : List ℕ} → Stays t w w' → Ran t q k i work listed lengths w' l d c n
+    pub renewed : {w' : List ℕ} → Stays t w w' → Ran t q k i work listed lengths w' l d c n
     renewed z = record {
       sites_are = ran.sites_are;
       taken_are = ran.taken_are;
@@ -161,18 +161,18 @@ module _ {t : Tables} {q k : ℕ} (P : Passed t q k) {i : ℕ} {work listed leng
     chosen : {r : Maybe ℕ} → Chosen t (ltb 0 c) w r → r ≡ next_of (choose (region_of t) (aim_of t) here)
     chosen h = h here from (drop (4 * t.n) work) (left b).0 (left b).2 all_left ran.live
 
-    picked_node : {u : ℕ} → Chosen t (ltb 0 c) w (Some u) → choose (region_of t) (aim_of t) here ≡ some u
+    pub picked_node : {u : ℕ} → Chosen t (ltb 0 c) w (Some u) → choose (region_of t) (aim_of t) here ≡ some u
     picked_node {u = u} h = next_some (choose (region_of t) (aim_of t) here) u (chosen h)
 
-    picked_none : Chosen t (ltb 0 c) w None → choose (region_of t) (aim_of t) here ≡ none
+    pub picked_none : Chosen t (ltb 0 c) w None → choose (region_of t) (aim_of t) here ≡ none
     picked_none h = next_none (choose (region_of t) (aim_of t) here) (chosen h)
 
-  first_of : {u : ℕ} → choose (region_of t) (aim_of t) here ≡ some u → First (is_open here) (key_in (region_of t) (aim_of t) here) t.n u
+  pub first_of : {u : ℕ} → choose (region_of t) (aim_of t) here ≡ some u → First (is_open here) (key_in (region_of t) (aim_of t) here) t.n u
   unfolding choose
   first_of e = rw e at (first_is (is_open here) (key_in (region_of t) (aim_of t) here) t.n)
 
   -- the node that goes next is open, and what is held of it tells whether it is a site
-  open_site : {u : ℕ} → choose (region_of t) (aim_of t) here ≡ some u → OpenSite t u w
+  pub open_site : {u : ℕ} → choose (region_of t) (aim_of t) here ≡ some u → OpenSite t u w
   unfolding is_open is_site
   open_site {u = u} e =
       let F = first_of e in
@@ -198,7 +198,7 @@ module _ {t : Tables} {q k : ℕ} (P : Passed t q k) {i : ℕ} {work listed leng
         (relax_to_taken (region_of t) (G P).valid (taken (mark here u)) here.best u (len_at here.best u) (listed_after (G P) k i).inv.size t.m (omega arith) v
         (taken_old here u v (sites_in (region_of t) here.order v z).0))))
 
-  advanced : {u : ℕ} {site : Bool} {w' l' d' : List ℕ} {c' : ℕ} → c < k → c < t.s → c < length listed → c < length lengths → choose (region_of t) (aim_of t) here ≡ some u
+  pub advanced : {u : ℕ} {site : Bool} {w' l' d' : List ℕ} {c' : ℕ} → c < k → c < t.s → c < length listed → c < length lengths → choose (region_of t) (aim_of t) here ≡ some u
       → SiteTold t.n w u site → Took t u w w' → Put site u (get_or w' u 0 - 1) c l d l' d' c' → Ran t q k (suc i) work listed lengths w' l' d' c' (suc n)
   unfolding take1 sites_of
   advanced {u = u} {site = site} {w' = w'} {l' = l'} {d' = d'} {c' = c'} a b room₁ room₂ picks told took put =
@@ -248,13 +248,13 @@ module _ {t : Tables} {q k : ℕ} (P : Passed t q k) {i : ℕ} {work listed leng
   pub few_taken : n ≤ t.n
   few_taken = let a = ran.taken_are in let b = taken_most (S P) (aim_of t) (aim_fits (S P)) i in omega arith
 
-  stops_filled : k ≤ c → (e : ℕ) → i ≤ e → Ran t q k e work listed lengths w l d c n
+  pub stops_filled : k ≤ c → (e : ℕ) → i ≤ e → Ran t q k e work listed lengths w l d c n
   stops_filled a = ended (inl (rw full_is (or_left (leb k c) (leb t.s c) (rw (le-leb k c a) tt))))
 
-  stops_done : t.s ≤ c → (e : ℕ) → i ≤ e → Ran t q k e work listed lengths w l d c n
+  pub stops_done : t.s ≤ c → (e : ℕ) → i ≤ e → Ran t q k e work listed lengths w l d c n
   stops_done a = ended (inl (rw full_is (or_right (leb k c) (leb t.s c) (rw (le-leb t.s c a) tt))))
 
-  stops_closed : choose (region_of t) (aim_of t) here ≡ none → (e : ℕ) → i ≤ e → Ran t q k e work listed lengths w l d c n
+  pub stops_closed : choose (region_of t) (aim_of t) here ≡ none → (e : ℕ) → i ≤ e → Ran t q k e work listed lengths w l d c n
   stops_closed z = ended (inr z)
 
 -- where no node is next, the run is at its end

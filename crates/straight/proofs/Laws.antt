@@ -8,7 +8,7 @@ use lib.Dec.{lit<}
 use lib.IntN.{ℤ, pos, negsuc, nat_abs, neg_ℤ, +ℤ_idl, +ℤ_idr}
 use lib.Signed.{mag}
 use mir.Syntax.{w32}
-use mir.Val.{to_z, of_z}
+use mir.Val.{SFits, to_z, of_z}
 use mir.Facts.{to_z-of_z}
 use Rattle.meaning.specs.Straight.{gap, root, squares}
 use Rattle.meaning.proofs.Estimates.{gap_triangle}
@@ -62,22 +62,28 @@ mag_abs (pos n) = omega arith
 mag_abs (negsuc n) = omega arith
 
 -- a coordinate in range, or where a place that doesn't count is put
+near_fits : (z : ℤ) → nat_abs z ≤ 1000000000 → SFits w32 z
+near_fits z l = record { sfits = lt_of_le_of_lt (mag_abs z) (lt_of_le_of_lt l (lit< tt)) }
+
 pub back_near : (z : ℤ) → nat_abs z ≤ 1000000000 → back z ≡ z
-back_near z l = to_z-of_z {w = w32} (record { sfits = lt_of_le_of_lt (mag_abs z) (lt_of_le_of_lt l (lit< tt)) })
+back_near z l = to_z-of_z (near_fits z l)
 
 abbrev pub Square : ℕ → ℤ → ℤ → Type 0
 Square r a b = r ≡ gap a b * gap a b
 
-pub square_back : (a b : ℤ) {r : ℕ} → nat_abs a ≤ 1000000000 → nat_abs b ≤ 1000000000 → Square r (back a) (back b) → Square r a b
-square_back a b l m e = rw (back_near a l, back_near b m) at e
+pub square_back : {r : ℕ} {a b : ℤ} → SFits w32 a → SFits w32 b → Square r (back a) (back b) → Square r a b
+square_back f g e = rw (to_z-of_z f, to_z-of_z g) at e
+
+pub square_near : (a b : ℤ) {r : ℕ} → nat_abs a ≤ 1000000000 → nat_abs b ≤ 1000000000 → Square r (back a) (back b) → Square r a b
+square_near a b l m = square_back (near_fits a l) (near_fits b m)
 
 -- the two squares of two nodes, of which the coordinates were passed on
 module _ {xs ys : List ℤ} {a b r s : ℕ} (p : Placed xs ys a) (q : Placed xs ys b)
     (d : Square r (back (entry xs a)) (back (entry xs b))) (e : Square s (back (entry ys a)) (back (entry ys b))) where
   pub sum_is : r + s ≡ squares (entry xs) (entry ys) a b
   sum_is =
-      ap₂ ◌+◌ (square_back (entry xs a) (entry xs b) (omega (arith, p.x_near)) (omega (arith, q.x_near)) d)
-      (square_back (entry ys a) (entry ys b) (omega (arith, p.y_near)) (omega (arith, q.y_near)) e)
+      ap₂ ◌+◌ (square_near (entry xs a) (entry xs b) (omega (arith, p.x_near)) (omega (arith, q.x_near)) d)
+      (square_near (entry ys a) (entry ys b) (omega (arith, p.y_near)) (omega (arith, q.y_near)) e)
 
   pub sum_small : r + s ≤ farthest
   sum_small = rw sum_is (squares_small p q)

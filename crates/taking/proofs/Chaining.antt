@@ -99,7 +99,7 @@ module _ {t : Tables} {starts nexts : List ℕ} where
         go (yes e) = rw (e, is) (get_or-set_same nexts i (get_or starts node 0) 0 (omega (arith, r.next_room)) ∙ r.first node low)
         go (no e) = rw (get_or-set_other nexts i x (get_or starts node 0) 0 e) (r.next x (omega arith) b)
 
-    link_one : Linking t (set starts node (suc i)) (set nexts i (get_or starts node 0)) i
+    pub link_one : Linking t (set starts node (suc i)) (set nexts i (get_or starts node 0)) i
     link_one =
         let k : t.m - i ≡ suc (t.m - suc i) = omega arith in
         record {

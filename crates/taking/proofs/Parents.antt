@@ -401,6 +401,9 @@ module _ {R : Region} {est : (ℕ → Bool) → ℕ → ℕ} {q : ℕ} (G : Sett
   kept_after zero = kept_start R q G.below
   kept_after (suc i) = kept_next (after R est k q i) (inv_after G k i) (parents_after R est k q i) (kept_after i) (full R k (after R est k q i)) (choose R est (after R est k q i))
 
+  pub parents_size : (i : ℕ) → length (parents_after R est k q i) ≡ R.n
+  parents_size i = (kept_after i).room
+
   pub parents_below : (i v : ℕ) → get_or (parents_after R est k q i) v 0 ≤ R.n
   parents_below i v = go (get_or (parents_after R est k q i) v 0) ((kept_after i).told v).is
     where

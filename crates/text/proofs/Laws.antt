@@ -23,7 +23,7 @@ line_by b (c ∷ cs) false e h =
     let g : lines (c ∷ cs) ≡ cut (c ∷ cs) = rw (lt-ltb 0 (suc (length cs)) (omega arith)) at h in
     rw (e, one-add (run in_line (c ∷ cs))) (ap (joined b) g)
 
-lines_all : (xs : List ℕ) → lines xs ≡ cond (ltb 0 (length xs)) (cut xs) []
+pub lines_all : (xs : List ℕ) → lines xs ≡ cond (ltb 0 (length xs)) (cut xs) []
 lines_all [] = refl
 lines_all (b ∷ bs) = rw (lt-ltb 0 (suc (length bs)) (omega arith)) (line_by b bs (eqb b 10) refl (lines_all bs))
 
