@@ -86,8 +86,9 @@ impl fmt::Display for Fault {
             Fault::GivenTwice => "a node is given twice",
             Fault::TableShort => "a table is shorter than its count",
             Fault::ArcShort => "an arc is shorter than the straight line between its ends",
-            // These are of a call, not of a text: whoever made it knows what it asked.
-            Fault::QueryOutside | Fault::KOutside | Fault::RoomShort => "the call was refused",
+            Fault::QueryOutside => "the query node is outside 1 to N",
+            Fault::KOutside => "k is outside 1 to 32",
+            Fault::RoomShort => "a work or answer buffer is too short",
         })
     }
 }
